@@ -1,0 +1,2 @@
+//! The trace script: what its lines ask, and the lines that answer them.
+pub mod session;
