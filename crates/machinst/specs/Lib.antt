@@ -1,0 +1,4 @@
+pub mod Cases
+pub mod Meaning
+pub mod Parts
+pub mod Usual

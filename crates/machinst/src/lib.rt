@@ -1,0 +1,4 @@
+//! Operands, control, and the instruction interface.
+pub mod control;
+pub mod inst;
+pub mod operand;

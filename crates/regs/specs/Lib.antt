@@ -1,0 +1,4 @@
+pub mod Classes
+pub mod Parts
+pub mod Sets
+pub mod Words
