@@ -1,0 +1,4 @@
+//! Wrappers: instructions made of any other instruction.
+pub mod charged;
+pub mod fenced;
+pub mod layered;
