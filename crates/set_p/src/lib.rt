@@ -1,4 +1,5 @@
 //! Instruction set P: an enum with a case for each instruction.
+ghost use mathlib.Core.List.{[]};
 ghost use mathlib.Core.Path.{_≡_};
 ghost use Rattle.set_p.specs.MeaningP.{meaning-p, moves-p, parts-p};
 use machinst::control::CallType;
@@ -12,6 +13,7 @@ use regs::reg::Reg;
 use regs::reg::RegClass;
 use regs::reg::Type;
 use regs::reg::Writable;
+use wrappers::layered::Layered;
 
 /// An instruction of set P.
 #[derive(Clone, Copy)]
@@ -186,5 +188,15 @@ pub impl MachInst for P as PMachInst {
             }
             P::Jump | P::Trap | P::Skip => {}
         }
+    }
+}
+
+pub impl Layered for P as PLayered {
+    ghost bare = { meaning-p };
+
+    ghost layers = { λ _. [] };
+
+    fn depth(&self) -> usize {
+        0
     }
 }

@@ -1,5 +1,6 @@
 //! Instruction set Q: one record for all instructions, read by a table of rows.
 ghost use lib.ListN.{getD};
+ghost use mathlib.Core.List.{[]};
 ghost use mathlib.Core.Path.{_≡_};
 ghost use Rattle.machinst.specs.Meaning.{slot-of};
 ghost use Rattle.set_q.specs.MeaningQ.{meaning-q, moves-q, no-row, parts-q, rows, shaped};
@@ -15,6 +16,7 @@ use regs::reg::PReg;
 use regs::reg::Reg;
 use regs::reg::RegClass;
 use regs::reg::Type;
+use wrappers::layered::Layered;
 
 /// An instruction of set Q. Which of its words are slots, and what else it is, the row of its opcode says.
 #[derive(Clone, Copy)]
@@ -229,5 +231,15 @@ pub impl MachInst for Q as QMachInst {
             (Shapes::Three(_, _, _), 2) => self.w2 = reg,
             _ => {}
         }
+    }
+}
+
+pub impl Layered for Q as QLayered {
+    ghost bare = { meaning-q };
+
+    ghost layers = { λ _. [] };
+
+    fn depth(&self) -> usize {
+        0
     }
 }

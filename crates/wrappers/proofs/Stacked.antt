@@ -27,6 +27,15 @@ fenced-more [] ms n = refl
 fenced-more (charge w ∷ ls) ms n = fenced-more ls ms n
 fenced-more (fence f ∷ ls) ms n = ap (λ (b : Bool). f n || b) (fenced-more ls ms n) ∙ sym (or-assoc (f n) (fenced-off ls n) (fenced-off ms n))
 
+pub under-none : (m : Meaning) → Under [] m m
+under-none m = record {
+  slots = sym (append-nil (slots-of m));
+  clobbers = λ n. sym (or-false (m .operation .clobbers n));
+  move = refl;
+  payload = refl;
+  control = refl;
+}
+
 module _ (ls : List Layer) (bare whole : Meaning) (u : Under ls bare whole) where
   pub under-charge : (w : ℕ) → Under (ls ++ charge w ∷ []) bare (charged-by w whole)
   under-charge w = record {

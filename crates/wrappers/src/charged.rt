@@ -1,5 +1,7 @@
+ghost use mathlib.Core.List.{[], _∷_, _++_};
 ghost use mathlib.Core.Path.{_≡_};
-ghost use Rattle.wrappers.specs.Layers.{charged-by, charged-moves};
+ghost use Rattle.wrappers.specs.Layers.{charge, charged-by, charged-moves};
+use crate::layered::Layered;
 use machinst::control::CallType;
 use machinst::control::MachTerminator;
 use machinst::inst::MachInst;
@@ -29,13 +31,11 @@ pub impl<I: MachInst> MachInst for Charged<I> as ChargedMachInst {
     }
 
     fn slot(&self, k: usize) -> Option<Operand> {
-        if self.inner.has_slot(k) {
-            return self.inner.slot(k);
+        let below = self.inner.slot(k);
+        if below.is_none() && self.has_slot(k) {
+            return Some(Operand::early_use(self.counter, OperandConstraint::Reg));
         }
-        if k > 0 && !self.inner.has_slot(k - 1) {
-            return None;
-        }
-        Some(Operand::early_use(self.counter, OperandConstraint::Reg))
+        below
     }
 
     fn has_slot(&self, k: usize) -> bool {
@@ -77,8 +77,18 @@ pub impl<I: MachInst> MachInst for Charged<I> as ChargedMachInst {
     fn set_slot(&mut self, k: usize, reg: Reg) {
         if self.inner.has_slot(k) {
             self.inner.set_slot(k, reg);
-        } else if k == 0 || self.inner.has_slot(k - 1) {
+        } else if self.has_slot(k) {
             self.counter = reg;
         }
+    }
+}
+
+pub impl<I: Layered> Layered for Charged<I> as ChargedLayered {
+    ghost bare = { λ c. bare (c .inner) };
+
+    ghost layers = { λ c. layers (c .inner) ++ charge (c .counter .0) ∷ [] };
+
+    fn depth(&self) -> usize {
+        self.inner.depth().saturating_add(1)
     }
 }

@@ -1,6 +1,8 @@
+ghost use mathlib.Core.List.{[], _∷_, _++_};
 ghost use mathlib.Core.Path.{_≡_};
 ghost use Rattle.regs.specs.Sets.{member};
-ghost use Rattle.wrappers.specs.Layers.{fenced-by};
+ghost use Rattle.wrappers.specs.Layers.{fence, fenced-by};
+use crate::layered::Layered;
 use machinst::control::CallType;
 use machinst::control::MachTerminator;
 use machinst::inst::MachInst;
@@ -70,5 +72,15 @@ pub impl<I: MachInst> MachInst for Fenced<I> as FencedMachInst {
 
     fn set_slot(&mut self, k: usize, reg: Reg) {
         self.inner.set_slot(k, reg);
+    }
+}
+
+pub impl<I: Layered> Layered for Fenced<I> as FencedLayered {
+    ghost bare = { λ c. bare (c .inner) };
+
+    ghost layers = { λ c. layers (c .inner) ++ fence (member (c .fence)) ∷ [] };
+
+    fn depth(&self) -> usize {
+        self.inner.depth().saturating_add(1)
     }
 }

@@ -1,35 +1,37 @@
-use mathlib.Core.Path.{_≡_, sym, ap, _∙_}
-use native.Mathlib.Omega.{arith}
-use Prim.Native.Nat.{_≤_, _<_, _-_}
-use lib.ListN.{length}
-use Rattle.std.specs.declared.option.Option.the-variants.{Some}
-use Rattle.machinst.proofs.Slots.{nth-in, nth-out, nth-push-in, nth-push-last, nth-push-past}
+use mathlib.Core.Bool.{Bool, not}
+use mathlib.Core.Path.{_≡_, refl, sym, ap, _∙_}
+use Rattle.machinst.specs.Meaning.{Slot, slot-of}
+use Rattle.machinst.specs.declared.operand.Operand.{Operand}
+use Rattle.std.specs.Options.{isSome, mapped}
+use Rattle.std.specs.declared.option.Option.{Option}
+use Rattle.std.specs.declared.option.Option.the-variants.{None, Some}
+use Rattle.wrappers.proofs.Wrapped.{slot-absent, slot-below, slot-counter}
 use Rattle.wrappers.proofs.charged.ChargedMachInst.slot.Needs as need
-use Rattle.wrappers.proofs.charged.ChargedMachInst.slot.Needs.{else-k-gt0·by·then-k-gt0·else-not-has-slot, else-k-gt0·by·else-k-gt0}
+use Rattle.wrappers.proofs.charged.ChargedMachInst.slot.Needs.{else-is-none·by·then-is-none·else-has-slot, else-is-none·by·else-is-none}
 
--- the inner instruction has the slot
+there : (r : Option Operand) → isSome (mapped slot-of r) ≡ isSome r
+there None = refl
+there (Some x) = refl
+
+-- whether the inner slot exists, by what is_none answered
+told : (r : Option Operand) (o : Option Slot) (b d : Bool) → mapped slot-of r ≡ o → isSome r ≡ not b → b ≡ d → isSome o ≡ not d
+told r o b d e f h = sym (ap isSome e) ∙ there r ∙ f ∙ ap not h
+
 pub returns-then-has-slot : need.returns-then-has-slot
 returns-then-has-slot g c =
-    let below = g .I·MachInst .meaning (c .args .self .now .inner) .operation .slots in
-    let here : c .args .k < length below = nth-in below (c .args .k) (sym (c .if-has-slot .ensures tt)) in
-    c .slot .ensures ∙ sym (nth-push-in below _ (c .args .k) here)
+    let m = g .I·MachInst .meaning (c .args .self .now .inner) in
+    ap {B = Option Slot} Some (c .early-use .ensures)
+    ∙ slot-counter (c .args .self .now .counter .0) m (c .args .k)
+    (told _ _ _ _ (c .slot-below .ensures) (c .is-none .ensures) (c .if-is-none .taken))
+    (sym (c .if-has-slot .ensures tt))
 
--- neither this slot nor the one before it is below
-pub returns-then-not-has-slot : need.returns-then-not-has-slot
-returns-then-not-has-slot g c =
-    let below = g .I·MachInst .meaning (c .args .self .now .inner) .operation .slots in
-    let past : length below ≤ c .args .k - 1 = nth-out below (c .args .k - 1) (sym (c .if-not-has-slot .ensures tt)) in
-    sym (nth-push-past below _ (c .args .k) (omega arith))
-
--- the slot before is the last one below, or there is none
 pub returns : need.returns
 returns g c =
-    let below = g .I·MachInst .meaning (c .args .self .now .inner) .operation .slots in
-    let out : length below ≤ c .args .k = nth-out below (c .args .k) (sym (c .if-has-slot .ensures tt)) in
-    let at : c .args .k ≡ length below = elim (c .else-k-gt0 .came) [
-      | else-k-gt0·by·then-k-gt0·else-not-has-slot w ↦
-          let before : c .args .k - 1 < length below = nth-in below (c .args .k - 1) (sym (w .if-not-has-slot .ensures tt)) in
-          omega arith
-      | else-k-gt0·by·else-k-gt0 w ↦ omega arith
-    ] in
-    ap Some (c .early-use .ensures) ∙ sym (nth-push-last below _ (c .args .k) at)
+    let m = g .I·MachInst .meaning (c .args .self .now .inner) in
+    let w = c .args .self .now .counter .0 in
+    c .slot-below .ensures
+    ∙ elim (c .else-is-none .came) [
+      | else-is-none·by·then-is-none·else-has-slot v ↦ slot-absent w m (c .args .k) (sym (v .if-has-slot .ensures tt))
+      | else-is-none·by·else-is-none v ↦
+          slot-below w m (c .args .k) (told _ _ _ _ (c .slot-below .ensures) (c .is-none .ensures) (v .if-is-none .left))
+    ]

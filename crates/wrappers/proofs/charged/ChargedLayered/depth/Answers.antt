@@ -1,7 +1,7 @@
 use native.Mathlib.Omega.{arith}
 use Rattle.std.proofs.shelf.Lists.{length-push}
 use Rattle.wrappers.proofs.Stacked.{under-charge}
-use Rattle.wrappers.proofs.layered.ChargedLayered.depth.Needs as need
+use Rattle.wrappers.proofs.charged.ChargedLayered.depth.Needs as need
 use Rattle.wrappers.specs.Layers.{charge}
 
 pub returns : need.returns

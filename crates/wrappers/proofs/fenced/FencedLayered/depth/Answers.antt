@@ -2,7 +2,7 @@ use native.Mathlib.Omega.{arith}
 use Rattle.regs.specs.Sets.{member}
 use Rattle.std.proofs.shelf.Lists.{length-push}
 use Rattle.wrappers.proofs.Stacked.{under-fence}
-use Rattle.wrappers.proofs.layered.FencedLayered.depth.Needs as need
+use Rattle.wrappers.proofs.fenced.FencedLayered.depth.Needs as need
 use Rattle.wrappers.specs.Layers.{fence}
 
 pub returns : need.returns
