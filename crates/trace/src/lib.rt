@@ -1,2 +1,3 @@
 //! The trace script: what its lines ask, and the lines that answer them.
 pub mod session;
+pub mod show;

@@ -1,0 +1,23 @@
+//! Why a line is refused.
+/// Why a line is no command.
+#[derive(Clone, Copy, PartialEq, Eq, Debug)]
+pub enum Reason {
+    TooFewWords,
+    TooManyWords,
+    NotANumber,
+    TooWide,
+    UnknownWord,
+}
+
+impl Reason {
+    /// The reason in words.
+    pub fn text(self) -> &'static str {
+        match self {
+            Reason::TooFewWords => "too few words",
+            Reason::TooManyWords => "too many words",
+            Reason::NotANumber => "not a number",
+            Reason::TooWide => "number too wide",
+            Reason::UnknownWord => "unknown word",
+        }
+    }
+}
