@@ -1,0 +1,2 @@
+//! Adjoining ranges over another list.
+pub mod ranges;

@@ -1,0 +1,2 @@
+//! Lists with room for a fixed number of entries.
+pub mod table;
