@@ -7,6 +7,8 @@ pub enum Reason {
     NotANumber,
     TooWide,
     UnknownWord,
+    NotHere,
+    UnsupportedWrappers,
 }
 
 impl Reason {
@@ -18,6 +20,8 @@ impl Reason {
             Reason::NotANumber => "not a number",
             Reason::TooWide => "number too wide",
             Reason::UnknownWord => "unknown word",
+            Reason::NotHere => "no command at this place",
+            Reason::UnsupportedWrappers => "a list of wrappers that is not supported yet",
         }
     }
 }

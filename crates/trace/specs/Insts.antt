@@ -3,19 +3,26 @@
 use lib.Chars.{codes}
 use mathlib.Core.Bool.{cond}
 use mathlib.Core.List.{List}
+use mathlib.Core.Path.{_≡_}
 use Prim.Native.Nat.{ℕ}
+use Rattle.machinst.specs.Meaning.{Meaning}
+use Rattle.regs.specs.Sets.{member}
 use Rattle.regs.specs.declared.preg_set.PRegSet.{PRegSet}
 use Rattle.regs.specs.declared.reg.Reg.{Reg}
 use Rattle.regs.specs.declared.reg.Writable.{Writable}
+use Rattle.set_p.specs.MeaningP.{meaning-p}
 use Rattle.set_p.specs.declared.P.{P}
 use Rattle.set_p.specs.declared.P.the-variants.{Imm, Add, Move, Call, TailCall, Ret, Branch, Jump, Trap, Skip}
+use Rattle.set_q.specs.MeaningQ.{meaning-q}
 use Rattle.set_q.specs.declared.Q.{Q}
+use Rattle.std.specs.declared.result.Result.{Result}
 use Rattle.std.specs.declared.result.Result.the-variants.{Ok, Err}
 use Rattle.std.specs.shelf.Text.{sameBytes}
-use Rattle.text.specs.Readers.{Read, reads-number, reads-this, reads-word, then}
+use Rattle.text.specs.Readers.{Read, left, reads-number, reads-this, reads-word, then}
+use Rattle.text.specs.declared.reason.Reason.{Reason}
 use Rattle.text.specs.declared.reason.Reason.the-variants.{UnknownWord}
-use Rattle.wrappers.specs.declared.charged.Charged.{Charged}
-use Rattle.wrappers.specs.declared.fenced.Fenced.{Fenced}
+use Rattle.text.specs.declared.words.Words.{Words}
+use Rattle.wrappers.specs.Layers.{charged-by, fenced-by}
 
 abbrev pub reads-reg : List (List ℕ) → Read Reg
 reads-reg ws = then (reads-number 32 ws) (λ w ws. Ok (record { 0 = w }, ws))
@@ -38,16 +45,6 @@ reads-q ws =
     (λ w1 ws. then (reads-reg ws)
     (λ w2 ws. then (reads-number 32 ws)
     (λ number ws. Ok (record { opcode = opcode; w0 = w0; w1 = w1; w2 = w2; number = number }, ws)))))))
-
-abbrev pub reads-charged : {I : Type 0} → (List (List ℕ) → Read I) → List (List ℕ) → Read (Charged I)
-reads-charged below ws =
-    then (below ws)
-    (λ inner ws. then (reads-this (codes "+") ws) (λ u ws. then (reads-reg ws) (λ counter ws. Ok (record { counter = counter; inner = inner }, ws))))
-
-abbrev pub reads-fenced : {I : Type 0} → (List (List ℕ) → Read I) → List (List ℕ) → Read (Fenced I)
-reads-fenced below ws =
-    then (below ws)
-    (λ inner ws. then (reads-this (codes "+") ws) (λ u ws. then (reads-set ws) (λ fence ws. Ok (record { fence = fence; inner = inner }, ws))))
 
 abbrev pub reads-imm : List (List ℕ) → Read P
 reads-imm ws = then (reads-written ws) (λ d ws. then (reads-number 32 ws) (λ value ws. Ok (Imm d value, ws)))
@@ -83,3 +80,30 @@ named-p name ws =
 
 abbrev pub reads-p : List (List ℕ) → Read P
 reads-p ws = then (reads-word ws) named-p
+
+-- What is read of an instruction, and the words that are left.
+abbrev pub Reader : Type 0
+Reader = List (List ℕ) → Read Meaning
+
+abbrev pub bare-p : Reader
+bare-p ws = then (reads-p ws) (λ p ws. Ok (meaning-p p, ws))
+
+abbrev pub bare-q : Reader
+bare-q ws = then (reads-q ws) (λ q ws. Ok (meaning-q q, ws))
+
+-- a charged instruction: the one below, `+`, and the counter's word
+abbrev pub reads-charged : Reader → Reader
+reads-charged below ws =
+    then (below ws)
+    (λ m ws. then (reads-this (codes "+") ws) (λ u ws. then (reads-reg ws) (λ counter ws. Ok (charged-by (counter .0) m, ws))))
+
+-- a fenced one: the one below, `+`, and the three words of the fence
+abbrev pub reads-fenced : Reader → Reader
+reads-fenced below ws =
+    then (below ws)
+    (λ m ws. then (reads-this (codes "+") ws) (λ u ws. then (reads-set ws) (λ fence ws. Ok (fenced-by (member fence) m, ws))))
+
+-- an instruction that was read means what its words write
+abbrev pub Means : {I : Type 0} → Reader → (I → Meaning) → Words → Result I Reason → Words → Type 0
+Means reads meaning before (Ok inst) after = reads (left before) ≡ Ok (meaning inst, left after)
+Means reads meaning before (Err e) after = reads (left before) ≡ Err e

@@ -1,9 +1,8 @@
 //! Instructions as a script writes them.
 ghost use mathlib.Core.Path.{_≡_};
-ghost use Prim.Native.Nat.{ℕ};
-ghost use mathlib.Core.List.{List};
-ghost use Rattle.text.specs.Readers.{Gives, Read};
-ghost use Rattle.trace.specs.Insts.{named-p, named-short, reads-add, reads-charged, reads-fenced, reads-imm, reads-p, reads-q, reads-reg, reads-set, reads-written};
+ghost use Rattle.text.specs.Readers.{Gives};
+ghost use Rattle.trace.specs.Insts.{Means, Reader, bare-p, bare-q, named-p, named-short, reads-add, reads-charged, reads-fenced, reads-imm, reads-p, reads-q, reads-reg, reads-set, reads-written};
+use machinst::inst::MachInst;
 use regs::preg_set::PRegSet;
 use regs::reg::Reg;
 use regs::reg::Writable;
@@ -14,14 +13,18 @@ use text::words::is_word;
 use text::words::Words;
 use wrappers::charged::Charged;
 use wrappers::fenced::Fenced;
+use set_p::PMachInst;
+use set_q::QMachInst;
+use wrappers::charged::ChargedMachInst;
+use wrappers::fenced::FencedMachInst;
 
 /// An instruction that can be read from the words of a line.
-pub trait ReadInst: Sized {
-    // What is read from some words, and the words that are left.
-    ghost reads: { List (List ℕ) → Read Self };
+pub trait ReadInst: MachInst + Sized {
+    // What the instruction means that some words write, and the words that are left.
+    ghost reads: { Reader };
 
     fn read(words: &mut Words) -> Result<Self, Reason>
-        ensures { λ r. ⌜ Gives reads (now (words .entry)) r (now (words .exit)) ⌝ };
+        ensures { λ r. ⌜ Means reads (Self·MachInst .meaning) (now (words .entry)) r (now (words .exit)) ⌝ };
 }
 
 fn read_reg(words: &mut Words) -> Result<Reg, Reason>
@@ -48,18 +51,24 @@ fn read_set(words: &mut Words) -> Result<PRegSet, Reason>
     })
 }
 
+fn read_q(words: &mut Words) -> Result<Q, Reason>
+    ensures { λ r. ⌜ Gives reads-q (now (words .entry)) r (now (words .exit)) ⌝ }
+{
+    words.expect(b"Op")?;
+    Ok(Q {
+        opcode: words.number8()?,
+        w0: read_reg(words)?,
+        w1: read_reg(words)?,
+        w2: read_reg(words)?,
+        number: words.number32()?,
+    })
+}
+
 pub impl ReadInst for Q as QReadInst {
-    ghost reads = { reads-q };
+    ghost reads = { bare-q };
 
     fn read(words: &mut Words) -> Result<Q, Reason> {
-        words.expect(b"Op")?;
-        Ok(Q {
-            opcode: words.number8()?,
-            w0: read_reg(words)?,
-            w1: read_reg(words)?,
-            w2: read_reg(words)?,
-            number: words.number32()?,
-        })
+        read_q(words)
     }
 }
 
@@ -151,11 +160,17 @@ fn read_named(name: &[u8], words: &mut Words) -> Result<P, Reason>
     }
 }
 
+fn read_p(words: &mut Words) -> Result<P, Reason>
+    ensures { λ r. ⌜ Gives reads-p (now (words .entry)) r (now (words .exit)) ⌝ }
+{
+    let name = words.word()?;
+    read_named(name, words)
+}
+
 pub impl ReadInst for P as PReadInst {
-    ghost reads = { reads-p };
+    ghost reads = { bare-p };
 
     fn read(words: &mut Words) -> Result<P, Reason> {
-        let name = words.word()?;
-        read_named(name, words)
+        read_p(words)
     }
 }
