@@ -13,6 +13,8 @@ use Rattle.script.specs.declared.head.Set.{Set}
 use Rattle.script.specs.declared.head.Set.the-variants as set
 use Rattle.script.specs.declared.head.Wrapper.{Wrapper}
 use Rattle.script.specs.declared.head.Wrapper.the-variants.{Charged, Fenced}
+use Rattle.script.specs.declared.head.Wrapping.{Wrapping}
+use Rattle.script.specs.declared.head.Wrapping.the-variants as to
 use Rattle.script.specs.declared.stop.Stop.{Stop}
 use Rattle.script.specs.declared.stop.Stop.the-variants.{Line, Memory}
 use Rattle.std.specs.Of.Vec.{vec-items}
@@ -56,37 +58,48 @@ Lists xs (Err (Line e)) = xs ≡ Err e
 Lists xs (Err Memory) = Unit {0}
 
 
--- one to three times Charged
-abbrev pub few-charged : List Wrapper → Bool
-few-charged (Charged ∷ []) = true
-few-charged (Charged ∷ Charged ∷ []) = true
-few-charged (Charged ∷ Charged ∷ Charged ∷ []) = true
-few-charged [] = false
-few-charged (Fenced ∷ xs) = false
-few-charged (Charged ∷ Fenced ∷ xs) = false
-few-charged (Charged ∷ Charged ∷ Fenced ∷ xs) = false
-few-charged (Charged ∷ Charged ∷ Charged ∷ x ∷ xs) = false
+-- the wrappers of each wrapping, the innermost first
+abbrev pub wrapping-list : Wrapping → List Wrapper
+wrapping-list to.Bare = []
+wrapping-list to.Charged = Charged ∷ []
+wrapping-list to.Fenced = Fenced ∷ []
+wrapping-list to.ChargedTwice = Charged ∷ Charged ∷ []
+wrapping-list to.ChargedFenced = Charged ∷ Fenced ∷ []
+wrapping-list to.FencedCharged = Fenced ∷ Charged ∷ []
+wrapping-list to.FencedTwice = Fenced ∷ Fenced ∷ []
+wrapping-list to.ChargedSix = Charged ∷ Charged ∷ Charged ∷ Charged ∷ Charged ∷ Charged ∷ []
+wrapping-list to.ChargedSeven = Charged ∷ Charged ∷ Charged ∷ Charged ∷ Charged ∷ Charged ∷ Charged ∷ []
+wrapping-list to.ChargedEight = Charged ∷ Charged ∷ Charged ∷ Charged ∷ Charged ∷ Charged ∷ Charged ∷ Charged ∷ []
 
--- the same after five times Charged
-abbrev pub many-charged : List Wrapper → Bool
-many-charged (Charged ∷ Charged ∷ Charged ∷ Charged ∷ Charged ∷ xs) = few-charged xs
-many-charged [] = false
-many-charged (Fenced ∷ xs) = false
-many-charged (Charged ∷ []) = false
-many-charged (Charged ∷ Fenced ∷ xs) = false
-many-charged (Charged ∷ Charged ∷ []) = false
-many-charged (Charged ∷ Charged ∷ Fenced ∷ xs) = false
-many-charged (Charged ∷ Charged ∷ Charged ∷ []) = false
-many-charged (Charged ∷ Charged ∷ Charged ∷ Fenced ∷ xs) = false
-many-charged (Charged ∷ Charged ∷ Charged ∷ Charged ∷ []) = false
-many-charged (Charged ∷ Charged ∷ Charged ∷ Charged ∷ Fenced ∷ xs) = false
+-- the wrapping of three times Charged and then these
+abbrev pub charged-thrice : List Wrapper → Option Wrapping
+charged-thrice [] = None
+charged-thrice (Fenced ∷ xs) = None
+charged-thrice (Charged ∷ []) = None
+charged-thrice (Charged ∷ Fenced ∷ xs) = None
+charged-thrice (Charged ∷ Charged ∷ []) = None
+charged-thrice (Charged ∷ Charged ∷ Fenced ∷ xs) = None
+charged-thrice (Charged ∷ Charged ∷ Charged ∷ []) = Some to.ChargedSix
+charged-thrice (Charged ∷ Charged ∷ Charged ∷ Fenced ∷ xs) = None
+charged-thrice (Charged ∷ Charged ∷ Charged ∷ Charged ∷ []) = Some to.ChargedSeven
+charged-thrice (Charged ∷ Charged ∷ Charged ∷ Charged ∷ Fenced ∷ xs) = None
+charged-thrice (Charged ∷ Charged ∷ Charged ∷ Charged ∷ Charged ∷ []) = Some to.ChargedEight
+charged-thrice (Charged ∷ Charged ∷ Charged ∷ Charged ∷ Charged ∷ x ∷ xs) = None
 
--- the lists that can be run: those of at most two, and six, seven or eight times Charged
-abbrev pub known-wrappers : List Wrapper → Bool
-known-wrappers [] = true
-known-wrappers (a ∷ []) = true
-known-wrappers (a ∷ b ∷ []) = true
-known-wrappers (a ∷ b ∷ c ∷ xs) = many-charged (a ∷ b ∷ c ∷ xs)
+-- the wrapping that a list is, where it can be run
+abbrev pub wrapping-of : List Wrapper → Option Wrapping
+wrapping-of [] = Some to.Bare
+wrapping-of (Charged ∷ []) = Some to.Charged
+wrapping-of (Fenced ∷ []) = Some to.Fenced
+wrapping-of (Charged ∷ Charged ∷ []) = Some to.ChargedTwice
+wrapping-of (Charged ∷ Fenced ∷ []) = Some to.ChargedFenced
+wrapping-of (Fenced ∷ Charged ∷ []) = Some to.FencedCharged
+wrapping-of (Fenced ∷ Fenced ∷ []) = Some to.FencedTwice
+wrapping-of (Charged ∷ Charged ∷ Charged ∷ xs) = charged-thrice xs
+wrapping-of (Charged ∷ Charged ∷ Fenced ∷ xs) = None
+wrapping-of (Charged ∷ Fenced ∷ x ∷ xs) = None
+wrapping-of (Fenced ∷ Charged ∷ x ∷ xs) = None
+wrapping-of (Fenced ∷ Fenced ∷ x ∷ xs) = None
 
 abbrev pub reads-lengths : List (List ℕ) → Read Lengths
 reads-lengths ws =

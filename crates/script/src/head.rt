@@ -1,7 +1,6 @@
 //! The head of a script: the set, the wrappers and the lengths of the tables.
-ghost use mathlib.Core.Bool.{true, false};
 ghost use mathlib.Core.Path.{_≡_};
-ghost use Rattle.script.specs.Heads.{Lists, known-wrappers, new-fault, reads-lengths, reads-set, set-named, wrapper-named, wrappers-of};
+ghost use Rattle.script.specs.Heads.{Lists, new-fault, reads-lengths, reads-set, set-named, wrapper-named, wrappers-of, wrapping-of};
 ghost use Rattle.std.specs.Results.{Cases};
 ghost use Rattle.std.specs.declared.option.Option.the-variants.{None, Some};
 ghost use Rattle.text.specs.Readers.{Gives, left};
@@ -25,6 +24,21 @@ pub enum Set {
 pub enum Wrapper {
     Charged,
     Fenced,
+}
+
+/// A list of wrappers that instructions can be run under, the innermost first.
+#[derive(Clone, Copy)]
+pub enum Wrapping {
+    Bare,
+    Charged,
+    Fenced,
+    ChargedTwice,
+    ChargedFenced,
+    FencedCharged,
+    FencedTwice,
+    ChargedSix,
+    ChargedSeven,
+    ChargedEight,
 }
 
 /// The length of each table that a function is built in.
@@ -96,17 +110,26 @@ pub fn read_wrappers(heap: Global, words: &mut Words) -> Result<Vec<Wrapper>, St
     Ok(wrappers)
 }
 
-/// Whether instructions under these wrappers can be run.
-pub fn is_known(wrappers: &[Wrapper]) -> bool
-    ensures { λ r. ⌜ r ≡ known-wrappers (now (wrappers .entry)) ⌝ }
-{
-    use Wrapper::Charged;
-    match wrappers {
-        [] | [_] | [_, _] => true,
-        [Charged, Charged, Charged, Charged, Charged, Charged] => true,
-        [Charged, Charged, Charged, Charged, Charged, Charged, Charged] => true,
-        [Charged, Charged, Charged, Charged, Charged, Charged, Charged, Charged] => true,
-        _ => false,
+impl Wrapping {
+    /// The wrapping that a list of wrappers is, where instructions under it can be run.
+    pub fn of(wrappers: &[Wrapper]) -> Option<Wrapping>
+        ensures { λ r. ⌜ r ≡ wrapping-of (now (wrappers .entry)) ⌝ }
+    {
+        use Wrapper::Charged as C;
+        use Wrapper::Fenced as F;
+        match wrappers {
+            [] => Some(Wrapping::Bare),
+            [C] => Some(Wrapping::Charged),
+            [F] => Some(Wrapping::Fenced),
+            [C, C] => Some(Wrapping::ChargedTwice),
+            [C, F] => Some(Wrapping::ChargedFenced),
+            [F, C] => Some(Wrapping::FencedCharged),
+            [F, F] => Some(Wrapping::FencedTwice),
+            [C, C, C, C, C, C] => Some(Wrapping::ChargedSix),
+            [C, C, C, C, C, C, C] => Some(Wrapping::ChargedSeven),
+            [C, C, C, C, C, C, C, C] => Some(Wrapping::ChargedEight),
+            _ => None,
+        }
     }
 }
 

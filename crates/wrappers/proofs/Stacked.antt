@@ -2,12 +2,12 @@
 use lib.ListN.{length}
 use mathlib.Core.Bool.{Bool, true, false, _||_}
 use mathlib.Core.List.{List, [], _∷_, _++_, append-assoc}
-use mathlib.Core.Path.{_≡_, refl, sym, ap, _∙_}
+use mathlib.Core.Path.{_≡_, refl, sym, ap, subst, _∙_}
 use Prim.Native.Nat.{ℕ}
 use Rattle.machinst.specs.Meaning.{Meaning, Slot, slots-of}
 use Rattle.machinst.specs.Usual.{early-use, in-reg}
 use Rattle.std.proofs.shelf.Lists.{append-nil}
-use Rattle.wrappers.specs.Layers.{Layer, Under, charge, charged-by, counters, fence, fenced-by, fenced-off}
+use Rattle.wrappers.specs.Layers.{Layer, Under, charge, charged-by, counters, fence, fenced-by, fenced-off, wrapped}
 
 counters-more : (ls ms : List Layer) → counters (ls ++ ms) ≡ counters ls ++ counters ms
 counters-more [] ms = refl
@@ -65,3 +65,17 @@ module _ (ls : List Layer) (bare whole : Meaning) (u : Under ls bare whole) wher
     payload = u .payload;
     control = u .control;
   }
+
+-- a list of wrappers, the innermost first
+wrapped-more : (ls ms : List Layer) (bare whole : Meaning) → Under ls bare whole → Under (ls ++ ms) bare (wrapped ms whole)
+wrapped-more ls [] bare whole u = subst (λ (ks : List Layer). Under ks bare whole) (sym (append-nil ls)) u
+wrapped-more ls (charge w ∷ ms) bare whole u =
+    subst (λ (ks : List Layer). Under ks bare (wrapped ms (charged-by w whole))) (append-assoc ls (charge w ∷ []) ms)
+    (wrapped-more (ls ++ charge w ∷ []) ms bare (charged-by w whole) (under-charge ls bare whole u w))
+wrapped-more ls (fence f ∷ ms) bare whole u =
+    subst (λ (ks : List Layer). Under ks bare (wrapped ms (fenced-by f whole))) (append-assoc ls (fence f ∷ []) ms)
+    (wrapped-more (ls ++ fence f ∷ []) ms bare (fenced-by f whole) (under-fence ls bare whole u f))
+
+-- what any list of wrappers makes of a meaning
+pub wrapped-under : (ls : List Layer) (m : Meaning) → Under ls m (wrapped ls m)
+wrapped-under ls m = wrapped-more [] ls m m (under-none m)
