@@ -11,7 +11,7 @@ pub struct ValueRegs<R> {
     second: Option<R>,
 }
 
-impl<R> ValueRegs<R> {
+impl<R: Copy> ValueRegs<R> {
     /// A value in one register.
     pub fn one(reg: R) -> ValueRegs<R>
         ensures { λ r. ⌜ value-regs r ≡ reg ∷ [] ⌝ }
@@ -31,9 +31,7 @@ impl<R> ValueRegs<R> {
             second: Some(second),
         }
     }
-}
 
-impl<R: Copy> ValueRegs<R> {
     /// How many registers hold the value.
     pub fn len(&self) -> usize
         ensures { λ r. ⌜ r ≡ length (value-regs (now (self .entry))) ⌝ }

@@ -1,2 +1,4 @@
+pub mod Alone
 pub mod Heads
 pub mod Shows
+pub mod Steps

@@ -1,4 +1,7 @@
 //! Answers a trace script, line by line.
+pub mod alone;
+pub mod commands;
 pub mod head;
 pub mod shows;
+pub mod stage;
 pub mod stop;

@@ -8,8 +8,9 @@ use Rattle.std.specs.declared.result.Result.the-variants.{Ok, Err}
 use Rattle.std.specs.shelf.Text.{sameBytes}
 use Rattle.text.specs.declared.reason.Reason.{Reason}
 use Rattle.text.specs.declared.reason.Reason.the-variants.{TooFewWords, TooManyWords, UnknownWord}
+use Rattle.text.specs.declared.lines.Lines.{Lines}
 use Rattle.text.specs.declared.words.Words.{Words}
-use Rattle.text.specs.Lines.{words-of}
+use Rattle.text.specs.Lines.{lines-of, words-of}
 use Rattle.text.specs.Numbers.{read-number}
 
 -- the words that a cursor has left to read
@@ -17,6 +18,10 @@ abbrev pub left : Words → List (List ℕ)
 left w = words-of (w .rest .now)
 
 -- a value with the words after it, or the reason why there is none
+-- the lines that a cursor has left to read
+abbrev pub lines-left : Lines → List (List ℕ)
+lines-left l = cond (l .done) [] (lines-of (l .rest .now))
+
 abbrev pub Read : Type 0 → Type 0
 Read A = Result (A × List (List ℕ)) Reason
 

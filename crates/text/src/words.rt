@@ -8,8 +8,9 @@ ghost use Rattle.std.specs.Results.{Cases as ByOk};
 ghost use Rattle.std.specs.Vec.{made};
 ghost use Rattle.std.specs.shelf.Text.{sameBytes};
 ghost use Rattle.std.specs.declared.result.Result.the-variants.{Ok, Err};
-ghost use Rattle.text.specs.Lines.{words-of, past-spaces, passed-over};
+ghost use Rattle.text.specs.Lines.{Split, words-of, past-spaces, passed-over};
 ghost use Rattle.text.specs.Readers.{left, Gives, reads-word, reads-under, reads-number, reads-this, reads-end};
+use crate::cut::bytes_before;
 use crate::number::number;
 use crate::reason::Reason;
 
@@ -39,7 +40,8 @@ pub struct Words<'a> {
 impl<'a> Words<'a> {
     /// All the words of `line`.
     pub fn new(line: &'a [u8]) -> Words<'a>
-        ensures { λ r. ⌜ left r ≡ words-of (now (line .entry)) ⌝ }
+        ensures words { λ r. ⌜ left r ≡ words-of (now (line .entry)) ⌝ }
+        ensures pieces { λ _. ⌜ Split 32 (now (line .entry)) ⌝ }
     {
         Words { rest: line }
     }
@@ -49,7 +51,7 @@ impl<'a> Words<'a> {
         ensures { λ r. ⌜ BySome r (left (now (self .entry)) ≡ []) (λ w. left (now (self .entry)) ≡ now w ∷ left (now (self .exit))) ⌝ }
     {
         let line = past_spaces(self.rest);
-        let (word, rest) = line.split_at(before_space(line));
+        let (word, rest) = line.split_at(bytes_before(line, SPACE));
         if word.is_empty() {
             return None;
         }
@@ -135,18 +137,4 @@ fn past_spaces(line: &[u8]) -> &[u8]
         }
     }
     &[]
-}
-
-/// How many bytes of `line` stand before its first space.
-fn before_space(line: &[u8]) -> usize
-    ensures within { λ r. ⌜ r ≤ length (now (line .entry)) ⌝ }
-    ensures before { λ r. ⌜ ((k : ℕ) → k < r → getD (now (line .entry)) k 0 ≡ 32 → ⊥) ⌝ }
-    ensures found { λ r. ⌜ (r < length (now (line .entry)) → getD (now (line .entry)) r 0 ≡ 32) ⌝ }
-{
-    for (i, b) in line.iter().enumerate() {
-        if *b == SPACE {
-            return i;
-        }
-    }
-    line.len()
 }
