@@ -1,11 +1,11 @@
 //! Reads a trace script from the file that is named, or from standard input, and prints its transcript.
+use script::session::run;
 use std::env;
 use std::error::AnyError;
 use std::fs;
 use std::io::Read;
-use trace::session::answer_all;
 
-fn script(rt: &LibcRuntime) -> Result<Vec<u8>, AnyError> {
+fn read_script(rt: &LibcRuntime) -> Result<Vec<u8>, AnyError> {
     let mut args = env::args(rt)?;
     let _program = args.next();
     match args.next() {
@@ -18,14 +18,16 @@ fn script(rt: &LibcRuntime) -> Result<Vec<u8>, AnyError> {
     }
 }
 
-fn run(rt: &LibcRuntime) -> Result<(), AnyError> {
-    let bytes = script(rt)?;
+fn answer(rt: &LibcRuntime) -> Result<(), AnyError> {
+    let script = read_script(rt)?;
     let mut out = String::new(rt.alloc());
-    answer_all(bytes.as_slice(), &mut out)?;
+    let mut reasons = String::new(rt.alloc());
+    run(rt.alloc(), script.as_slice(), &mut out, &mut reasons)?;
     print!(rt, "{out}")?;
+    eprint!(rt, "{reasons}")?;
     Ok(())
 }
 
 fn main(rt: LibcRuntime) -> Result<(), AnyError> {
-    rt.report(run(&rt))
+    rt.report(answer(&rt))
 }

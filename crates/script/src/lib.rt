@@ -2,6 +2,7 @@
 pub mod alone;
 pub mod commands;
 pub mod head;
+pub mod session;
 pub mod shows;
 pub mod stage;
 pub mod stop;

@@ -1,4 +1,3 @@
-//! The trace script: what its lines ask, and the lines that answer them.
+//! Instructions as a trace script writes them, and what they mean as a transcript shows it.
 pub mod read;
-pub mod session;
 pub mod show;
