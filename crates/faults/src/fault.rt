@@ -1,11 +1,9 @@
 ghost use mathlib.Core.Path.{_≡_};
 ghost use Rattle.faults.specs.Faults.{fault-number, fault-place};
 use crate::table_id::TableId;
-use crate::table_id::TableIdDebug;
-use crate::table_id::TableIdPartialEq;
 
 /// Why a call was refused.
-#[derive(Clone, Copy, PartialEq, Eq, Debug)]
+#[derive(Clone, Copy)]
 pub enum Fault {
     /// A table has no room for what would be added; the place is the number of the table.
     Full(TableId),

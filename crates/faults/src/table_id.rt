@@ -2,7 +2,7 @@ ghost use mathlib.Core.Path.{_≡_};
 ghost use Rattle.faults.specs.TableIds.{table-number, table-most, capacity-of};
 
 /// Which table it is, and so how many entries it can have.
-#[derive(Clone, Copy, PartialEq, Eq, Debug)]
+#[derive(Clone, Copy)]
 pub enum TableId {
     /// The virtual registers.
     Registers,

@@ -3,7 +3,7 @@ ghost use Prim.Native.Nat.{max};
 ghost use Rattle.machinst.specs.Cases.{calls-number, class-of-call};
 
 /// How an instruction ends its block.
-#[derive(Clone, Copy, PartialEq, Eq, Debug)]
+#[derive(Clone, Copy)]
 pub enum MachTerminator {
     None,
     Ret,
@@ -13,7 +13,7 @@ pub enum MachTerminator {
 }
 
 /// What kind of call an instruction is.
-#[derive(Clone, Copy, PartialEq, Eq, Debug)]
+#[derive(Clone, Copy)]
 pub enum CallType {
     None,
     Regular,
@@ -21,7 +21,7 @@ pub enum CallType {
 }
 
 /// What calls a function makes.
-#[derive(Clone, Copy, PartialEq, Eq, Debug)]
+#[derive(Clone, Copy)]
 pub enum FunctionCalls {
     None,
     /// Tail calls and no regular one.

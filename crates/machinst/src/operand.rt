@@ -3,15 +3,11 @@ ghost use Rattle.machinst.specs.Cases.{constraint-case};
 ghost use Rattle.machinst.specs.Meaning.{slot-of};
 ghost use Rattle.machinst.specs.Usual.{early-use, late-def};
 use regs::reg::PReg;
-use regs::reg::PRegDebug;
-use regs::reg::PRegPartialEq;
 use regs::reg::Reg;
-use regs::reg::RegDebug;
-use regs::reg::RegPartialEq;
 use regs::reg::Writable;
 
 /// Where the allocator may put an operand.
-#[derive(Clone, Copy, PartialEq, Eq, Debug)]
+#[derive(Clone, Copy)]
 pub enum OperandConstraint {
     Any,
     Reg,
@@ -23,21 +19,21 @@ pub enum OperandConstraint {
 }
 
 /// Whether an operand is read or written.
-#[derive(Clone, Copy, PartialEq, Eq, Debug)]
+#[derive(Clone, Copy)]
 pub enum OperandKind {
     Use,
     Def,
 }
 
 /// When an operand is read or written, within its instruction.
-#[derive(Clone, Copy, PartialEq, Eq, Debug)]
+#[derive(Clone, Copy)]
 pub enum OperandPos {
     Early,
     Late,
 }
 
 /// A slot of an instruction: a register, and what the allocator is told of it.
-#[derive(Clone, Copy, PartialEq, Eq, Debug)]
+#[derive(Clone, Copy)]
 pub struct Operand {
     pub reg: Reg,
     pub constraint: OperandConstraint,

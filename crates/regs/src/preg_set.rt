@@ -6,7 +6,7 @@ ghost use Rattle.regs.specs.Sets.{first-regs, member, word-of, lone-word};
 use crate::reg::PReg;
 
 /// A set of physical registers: bit b of word w is register 64 × w + b.
-#[derive(Clone, Copy, PartialEq, Eq)]
+#[derive(Clone, Copy)]
 pub struct PRegSet {
     pub w0: u64,
     pub w1: u64,

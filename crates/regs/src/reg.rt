@@ -11,11 +11,11 @@ const SPILLSLOT_BIT: u32 = 0x8000_0000;
 const PINNED_VREGS: u32 = 192;
 
 /// A register named in an instruction: a spill slot where bit 31 is set, otherwise 4 × index + class.
-#[derive(Clone, Copy, PartialEq, Eq, Debug)]
+#[derive(Clone, Copy, PartialEq, Eq)]
 pub struct Reg(pub u32);
 
 /// The class of a register.
-#[derive(Clone, Copy, PartialEq, Eq, Debug)]
+#[derive(Clone, Copy)]
 pub enum RegClass {
     Int,
     Float,
@@ -23,17 +23,17 @@ pub enum RegClass {
 }
 
 /// A physical register, by its number.
-#[derive(Clone, Copy, PartialEq, Eq, Debug)]
+#[derive(Clone, Copy)]
 pub struct PReg(pub u8);
 
 /// A register that is written.
-#[derive(Clone, Copy, PartialEq, Eq, Debug)]
+#[derive(Clone, Copy)]
 pub struct Writable<T> {
     pub reg: T,
 }
 
 /// The number of a type of values.
-#[derive(Clone, Copy, PartialEq, Eq, Debug)]
+#[derive(Clone, Copy)]
 pub struct Type(pub u16);
 
 impl RegClass {

@@ -5,7 +5,7 @@ ghost use Rattle.regs.specs.Parts.{only, value-regs};
 ghost use Rattle.std.specs.Finite.{nth};
 
 /// The one or two registers that hold a value.
-#[derive(Clone, Copy, PartialEq, Eq)]
+#[derive(Clone, Copy)]
 pub struct ValueRegs<R> {
     first: R,
     second: Option<R>,

@@ -1,25 +1,11 @@
--- Readers that go by a name, and what is read with nothing left.
-use mathlib.Core.Bool.{Bool, true, false, cond}
+-- What is read with nothing left.
 use mathlib.Core.List.{List}
-use mathlib.Core.Path.{_≡_, sym, ap, _∙_}
+use mathlib.Core.Path.{_≡_, ap}
 use Prim.Native.Nat.{ℕ}
-use Rattle.script.specs.Shows.{value}
+use Rattle.script_show.specs.Shows.{value}
 use Rattle.script.specs.Steps.{Step, with-read}
-use Rattle.std.specs.declared.result.Result.{Result}
-use Rattle.std.specs.declared.result.Result.the-variants.{Ok, Err}
-use Rattle.text.specs.Readers.{Gives, Read, left}
-use Rattle.text.specs.declared.reason.Reason.{Reason}
-use Rattle.text.specs.declared.words.Words.{Words}
-
--- another reader that reads the same
-pub gives-as : {A : Type 0} (R S : List (List ℕ) → Read A) (before : Words) (r : Result A Reason) (after : Words) → R (left before) ≡ S (left before) → Gives S before r after → Gives R before r after
-gives-as R S before (Ok a) after e h = e ∙ h
-gives-as R S before (Err x) after e h = e ∙ h
-
--- the third of some tests is the first that passes
-pub third : {A : Type 0} (a b c : Bool) (x y z w : A) → a ≡ false → b ≡ false → c ≡ true → cond a x (cond b y (cond c z w)) ≡ z
-third a b c x y z w e f g =
-    ap (λ (t : Bool). cond t x (cond b y (cond c z w))) e ∙ ap (λ (t : Bool). cond t y (cond c z w)) f ∙ ap (λ (t : Bool). cond t z w) g
+use Rattle.std.specs.declared.result.Result.the-variants.{Ok}
+use Rattle.text.specs.Readers.{Read}
 
 -- goes on with what was read
 pub read-as : {A : Type 0} (r : Read A) (a : A) (ws : List (List ℕ)) (f : A → Step) → r ≡ Ok (a, ws) → with-read (value r) f ≡ f a

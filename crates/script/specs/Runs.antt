@@ -10,7 +10,7 @@ use Rattle.std.specs.declared.alloc.Global.{Global}
 use Rattle.std.specs.declared.result.Result.the-variants.{Ok, Err}
 use Rattle.std.specs.declared.string.String.{String}
 use Rattle.text.specs.Lines.{passed-over, words-of}
-use Rattle.trace.specs.Shown.{newline}
+use Rattle.trace_show.specs.Shown.{newline}
 
 -- the number of the line after n lines; it stops at the largest number of 64 bits
 abbrev pub next-number : ℕ → ℕ

@@ -10,18 +10,18 @@ use Rattle.faults.specs.declared.fault.Fault.{Fault}
 use Rattle.faults.specs.declared.table_id.TableId.the-variants.{Ranges as OfRanges}
 use Rattle.machinst.specs.Meaning.{Meaning}
 use Rattle.ranges.specs.Spans.{Spans, no-spans, spans}
-use Rattle.script.specs.Alone.{after-call, call-text, reads-call, refused-text}
-use Rattle.script.specs.Heads.{new-fault, reads-lengths, reads-set, wrappers-of, wrapping-list, wrapping-of}
-use Rattle.script.specs.Shows.{Writes, bare-reader, layered, value}
-use Rattle.script.specs.declared.head.Lengths.{Lengths}
-use Rattle.script.specs.declared.head.Set.{Set}
-use Rattle.script.specs.declared.head.Wrapper.{Wrapper}
-use Rattle.script.specs.declared.head.Wrapping.{Wrapping}
-use Rattle.script.specs.declared.head.Wrapping.the-variants.{Bare}
+use Rattle.script_ranges.specs.Alone.{after-call, call-text, reads-call, refused-text}
+use Rattle.script_head.specs.Heads.{new-fault, reads-lengths, reads-set, wrappers-of, wrapping-list, wrapping-of}
+use Rattle.script_show.specs.Shows.{Writes, bare-reader, layered, value}
+use Rattle.script_head.specs.declared.head.Lengths.{Lengths}
+use Rattle.script_head.specs.declared.head.Set.{Set}
+use Rattle.script_head.specs.declared.head.Wrapper.{Wrapper}
+use Rattle.script_head.specs.declared.head.Wrapping.{Wrapping}
+use Rattle.script_head.specs.declared.head.Wrapping.the-variants.{Bare}
 use Rattle.script.specs.declared.stage.Stage.{Stage}
 use Rattle.script.specs.declared.stage.Stage.the-variants as stage
-use Rattle.script.specs.declared.stop.Stop.{Stop}
-use Rattle.script.specs.declared.stop.Stop.the-variants.{Line, Memory}
+use Rattle.script_head.specs.declared.stop.Stop.{Stop}
+use Rattle.script_head.specs.declared.stop.Stop.the-variants.{Line, Memory}
 use Rattle.std.specs.Of.String.{string-bytes}
 use Rattle.std.specs.declared.alloc.Global.{Global}
 use Rattle.std.specs.declared.option.Option.{Option}
@@ -33,7 +33,7 @@ use Rattle.std.specs.shelf.Text.{sameBytes}
 use Rattle.text.specs.Readers.{Read, reads-end, reads-number, reads-word, then}
 use Rattle.text.specs.declared.reason.Reason.{Reason}
 use Rattle.text.specs.declared.reason.Reason.the-variants.{NotHere, UnsupportedWrappers}
-use Rattle.trace.specs.Shown.{newline}
+use Rattle.trace_show.specs.Shown.{newline}
 use Rattle.wrappers.specs.Layers.{Layer, wrapped}
 
 -- Where a script stands: at its start, in the head of a function, past that head, at the calls of a range table used

@@ -4,25 +4,25 @@ ghost use Rattle.ranges.specs.Spans.{spans};
 ghost use Rattle.script.specs.Steps.{Changes, Moves, Takes, alone-step, chosen, head, head-step, lengths-step, new-text, place-of, ranges-step, reads-length, show-step, start, start-step, step, wrap-once};
 ghost use Rattle.std.specs.declared.option.Option.the-variants.{None};
 ghost use Rattle.text.specs.Readers.{Gives, left};
-ghost use Rattle.trace.specs.Shown.{Appends};
-use crate::alone::answer_call;
-use crate::alone::read_call;
-use crate::alone::write_refused;
-use crate::head::check_lengths;
-use crate::head::read_lengths;
-use crate::head::read_set;
-use crate::head::read_wrappers;
-use crate::head::Set;
-use crate::head::Wrapping;
-use crate::shows::show;
+ghost use Rattle.trace_show.specs.Shown.{Appends};
+use script_ranges::alone::answer_call;
+use script_ranges::alone::read_call;
+use script_ranges::alone::write_refused;
+use script_head::head::Set;
+use script_head::head::Wrapping;
+use script_head::head::check_lengths;
+use script_head::head::read_lengths;
+use script_head::head::read_set;
+use script_head::head::read_wrappers;
+use script_show::shows::show;
 use crate::stage::Stage;
-use crate::stop::Stop;
+use script_head::stop::Stop;
 use ranges::ranges::Ranges;
 use std::alloc::Global;
 use std::fmt;
 use text::reason::Reason;
-use text::words::is_word;
 use text::words::Words;
+use text::words::is_word;
 
 fn write_new(out: &mut String) -> fmt::Result
     ensures { λ r. ⌜ Appends r (now (out .entry)) (now (out .exit)) new-text ⌝ }
@@ -55,7 +55,12 @@ fn start_ranges(heap: Global, words: &mut Words, out: &mut String) -> Result<Sta
 }
 
 // A command at the start of a script.
-fn start_named(heap: Global, name: &[u8], words: &mut Words, out: &mut String) -> Result<Stage, Stop>
+fn start_named(
+    heap: Global,
+    name: &[u8],
+    words: &mut Words,
+    out: &mut String,
+) -> Result<Stage, Stop>
     ensures { λ r. ⌜ Takes (start-step (now (name .entry)) (left (now (words .entry)))) r (now (out .entry)) (now (out .exit)) ⌝ }
 {
     if is_word(name, b"set") {
@@ -93,7 +98,12 @@ fn or_bare(wrapping: Option<Wrapping>) -> Wrapping
     }
 }
 
-fn show_command(set: Set, wrapping: Option<Wrapping>, words: &mut Words, out: &mut String) -> Result<Stage, Stop>
+fn show_command(
+    set: Set,
+    wrapping: Option<Wrapping>,
+    words: &mut Words,
+    out: &mut String,
+) -> Result<Stage, Stop>
     ensures { λ r. ⌜ Takes (show-step set wrapping (left (now (words .entry)))) r (now (out .entry)) (now (out .exit)) ⌝ }
 {
     match show(set, or_bare(wrapping), words, out) {
@@ -122,7 +132,14 @@ fn tables_command(words: &mut Words, out: &mut String) -> Result<Stage, Stop>
 }
 
 // A command in the head of a function.
-fn head_named(heap: Global, set: Set, wrapping: Option<Wrapping>, name: &[u8], words: &mut Words, out: &mut String) -> Result<Stage, Stop>
+fn head_named(
+    heap: Global,
+    set: Set,
+    wrapping: Option<Wrapping>,
+    name: &[u8],
+    words: &mut Words,
+    out: &mut String,
+) -> Result<Stage, Stop>
     ensures { λ r. ⌜ Takes (head-step set wrapping (now (name .entry)) (left (now (words .entry)))) r (now (out .entry)) (now (out .exit)) ⌝ }
 {
     if is_word(name, b"wrap") {
@@ -148,7 +165,13 @@ fn start_command(heap: Global, words: &mut Words, out: &mut String) -> Result<St
     }
 }
 
-fn head_command(heap: Global, set: Set, wrapping: Option<Wrapping>, words: &mut Words, out: &mut String) -> Result<Stage, Stop>
+fn head_command(
+    heap: Global,
+    set: Set,
+    wrapping: Option<Wrapping>,
+    words: &mut Words,
+    out: &mut String,
+) -> Result<Stage, Stop>
     ensures { λ r. ⌜ Takes (step (head set wrapping) (left (now (words .entry)))) r (now (out .entry)) (now (out .exit)) ⌝ }
 {
     match words.word() {

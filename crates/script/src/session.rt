@@ -6,15 +6,15 @@ ghost use Rattle.script.specs.Runs.{Run, Settles, error-text, line-step, next-
 ghost use Rattle.script.specs.Steps.{place-of, start};
 ghost use Rattle.std.specs.Vec.{made};
 ghost use Rattle.text.specs.Lines.{lines-of};
-ghost use Rattle.trace.specs.Shown.{Appends};
+ghost use Rattle.trace_show.specs.Shown.{Appends};
 use crate::stage::Stage;
-use crate::stop::Stop;
+use script_head::stop::Stop;
 use std::alloc::Global;
 use std::fmt;
 use text::lines::Lines;
 use text::reason::Reason;
-use text::words::is_passed_over;
 use text::words::Words;
+use text::words::is_passed_over;
 
 /// A script that is being answered.
 #[derive(Drop)]
@@ -47,7 +47,13 @@ impl Session {
     }
 
     /// Answers one line: what is due goes to the end of `out`, and why the line is no command to that of `reasons`.
-    pub fn answer(&mut self, heap: Global, line: &[u8], out: &mut String, reasons: &mut String) -> fmt::Result
+    pub fn answer(
+        &mut self,
+        heap: Global,
+        line: &[u8],
+        out: &mut String,
+        reasons: &mut String,
+    ) -> fmt::Result
         ensures { λ r. ⌜ made r (λ _. (now (self .exit) .line ≡ next-number (now (self .entry) .line)) × Settles (line-step (place-of (now (self .entry) .stage)) (next-number (now (self .entry) .line)) (now (line .entry))) (place-of (now (self .exit) .stage)) (now (out .entry)) (now (out .exit))) ⌝ }
     {
         self.line = self.line.saturating_add(1);

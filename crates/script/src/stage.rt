@@ -1,5 +1,5 @@
-use crate::head::Set;
-use crate::head::Wrapping;
+use script_head::head::Set;
+use script_head::head::Wrapping;
 use ranges::ranges::Ranges;
 
 /// Where a script stands.

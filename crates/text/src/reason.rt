@@ -1,6 +1,6 @@
 //! Why a line is refused.
 /// Why a line is no command.
-#[derive(Clone, Copy, PartialEq, Eq, Debug)]
+#[derive(Clone, Copy)]
 pub enum Reason {
     TooFewWords,
     TooManyWords,

@@ -10,10 +10,10 @@ ghost use Rattle.faults.specs.declared.fault.Fault.the-variants.{OutOfRange};
 ghost use Rattle.faults.specs.declared.table_id.TableId.the-variants.{Ranges as Alone};
 use super::Ranges;
 use faults::fault::Fault;
-use tables::table::Table;
 use faults::table_id::TableId;
 use std::alloc::AllocError;
 use std::alloc::Global;
+use tables::table::Table;
 
 impl Ranges {
     /// No ranges, with room for `length`, or for the most that `id` allows where that is fewer.

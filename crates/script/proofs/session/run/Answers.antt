@@ -10,8 +10,7 @@ use Rattle.std.specs.declared.string.String.{String}
 -- one more line is answered
 run-more : (p q : Place) (n m : ℕ) (line : List ℕ) (lines rest : List (List ℕ)) (before mid after : String Global) → lines ≡ line ∷ rest → m ≡ next-number n → Settles (line-step p (next-number n) line) q before mid → Run q m rest mid after → Run p n lines before after
 run-more p q n m line lines rest before mid after split number due run =
-    subst (λ (ls : List (List ℕ)). Run p n ls before after) (sym split)
-    (
+    subst (λ (ls : List (List ℕ)). Run p n ls before after) (sym split) (
       mid,
       due .1,
       subst (λ (k : ℕ). Run (line-step p (next-number n) line .0) k rest mid after) number (subst (λ (r : Place). Run r m rest mid after) (due .0) run),

@@ -1,0 +1,2 @@
+//! A range table that is used alone.
+pub mod alone;

@@ -1,0 +1,2 @@
+//! The answer to `show`.
+pub mod shows;

@@ -1,0 +1,71 @@
+//! The answer to `show`: what an instruction means.
+ghost use mathlib.Core.Path.{_≡_};
+ghost use Rattle.script_head.specs.Heads.{wrapping-list};
+ghost use Rattle.script_show.specs.Shows.{ShowsBy, ShowsUnder, bare-reader};
+ghost use Rattle.text.specs.Readers.{left};
+use script_head::head::Set;
+use script_head::head::Wrapping;
+use script_head::stop::Stop;
+use machinst::inst::MachInst;
+use set_p::P;
+use set_q::Q;
+use text::words::Words;
+use trace_read::read::ChargedReadInst;
+use trace_read::read::FencedReadInst;
+use trace_read::read::PReadInst;
+use trace_read::read::QReadInst;
+use trace_read::read::ReadInst;
+use trace_show::show::write_meaning;
+use wrappers::charged::Charged;
+use wrappers::fenced::Fenced;
+
+type Six<I> = Charged<Charged<Charged<Charged<Charged<Charged<I>>>>>>;
+
+// Reads one instruction of this type from all of the words, and writes what it means.
+fn show_as<I: ReadInst + Drop>(words: &mut Words, out: &mut String) -> Result<(), Stop>
+    ensures { λ r. ⌜ ShowsBy (I·ReadInst .reads) (left (now (words .entry))) r (now (out .entry)) (now (out .exit)) ⌝ }
+{
+    let inst = match I::read(words) {
+        Ok(inst) => inst,
+        Err(reason) => return Err(Stop::Line(reason)),
+    };
+    if let Err(reason) = words.end() {
+        return Err(Stop::Line(reason));
+    }
+    match write_meaning(out, &inst) {
+        Ok(()) => Ok(()),
+        Err(_) => Err(Stop::Memory),
+    }
+}
+
+// The same of a bare instruction of this type under wrappers.
+fn show_under<B: ReadInst + Copy>(
+    wrapping: Wrapping,
+    words: &mut Words,
+    out: &mut String,
+) -> Result<(), Stop>
+    ensures { λ r. ⌜ ShowsUnder (B·ReadInst .reads) (wrapping-list wrapping) (left (now (words .entry))) r (now (out .entry)) (now (out .exit)) ⌝ }
+{
+    match wrapping {
+        Wrapping::Bare => show_as::<B>(words, out),
+        Wrapping::Charged => show_as::<Charged<B>>(words, out),
+        Wrapping::Fenced => show_as::<Fenced<B>>(words, out),
+        Wrapping::ChargedTwice => show_as::<Charged<Charged<B>>>(words, out),
+        Wrapping::ChargedFenced => show_as::<Fenced<Charged<B>>>(words, out),
+        Wrapping::FencedCharged => show_as::<Charged<Fenced<B>>>(words, out),
+        Wrapping::FencedTwice => show_as::<Fenced<Fenced<B>>>(words, out),
+        Wrapping::ChargedSix => show_as::<Six<B>>(words, out),
+        Wrapping::ChargedSeven => show_as::<Six<Charged<B>>>(words, out),
+        Wrapping::ChargedEight => show_as::<Six<Charged<Charged<B>>>>(words, out),
+    }
+}
+
+/// Reads one instruction of the set, under these wrappers, from all of the words, and writes what it means.
+pub fn show(set: Set, wrapping: Wrapping, words: &mut Words, out: &mut String) -> Result<(), Stop>
+    ensures { λ r. ⌜ ShowsUnder (bare-reader set) (wrapping-list wrapping) (left (now (words .entry))) r (now (out .entry)) (now (out .exit)) ⌝ }
+{
+    match set {
+        Set::P => show_under::<P>(wrapping, words, out),
+        Set::Q => show_under::<Q>(wrapping, words, out),
+    }
+}

@@ -1,2 +1,0 @@
-pub mod Insts
-pub mod Shown

@@ -1,0 +1,2 @@
+//! Instructions as a trace script writes them.
+pub mod read;

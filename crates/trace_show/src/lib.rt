@@ -1,0 +1,2 @@
+//! What an instruction means, as a transcript shows it.
+pub mod show;
