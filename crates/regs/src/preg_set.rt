@@ -44,8 +44,8 @@ impl PRegSet {
         }
     }
 
-    /// This register alone; none where there is no such register.
-    pub fn single(reg: PReg) -> PRegSet
+    // This register alone; none where there is no such register.
+    fn single(reg: PReg) -> PRegSet
         ensures { λ r. ⌜ ((n : ℕ) → member r n ≡ eqb n (reg .0) && ltb n 192) ⌝ }
     {
         PRegSet::from_word(reg.0 / 64, 1u64 << (reg.0 % 64))

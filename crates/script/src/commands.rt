@@ -5,19 +5,19 @@ ghost use Rattle.script.specs.Steps.{Changes, Moves, Takes, alone-step, chosen
 ghost use Rattle.std.specs.declared.option.Option.the-variants.{None};
 ghost use Rattle.text.specs.Readers.{Gives, left};
 ghost use Rattle.trace_show.specs.Shown.{Appends};
-use script_ranges::alone::answer_call;
-use script_ranges::alone::read_call;
-use script_ranges::alone::write_refused;
+use crate::stage::Stage;
+use ranges::ranges::Ranges;
 use script_head::head::Set;
 use script_head::head::Wrapping;
 use script_head::head::check_lengths;
 use script_head::head::read_lengths;
 use script_head::head::read_set;
 use script_head::head::read_wrappers;
-use script_show::shows::show;
-use crate::stage::Stage;
 use script_head::stop::Stop;
-use ranges::ranges::Ranges;
+use script_ranges::alone::answer_call;
+use script_ranges::alone::read_call;
+use script_ranges::alone::write_refused;
+use script_show::shows::show;
 use std::alloc::Global;
 use std::fmt;
 use text::reason::Reason;
@@ -195,7 +195,7 @@ fn alone_command(ranges: &mut Ranges, words: &mut Words, out: &mut String) -> Re
 }
 
 impl Stage {
-    /// Answers the words of a line that is not passed over, and goes on to the next stage.
+    // Answers the words of a line that is not passed over, and goes on to the next stage.
     pub fn answer(&mut self, heap: Global, words: &mut Words, out: &mut String) -> Result<(), Stop>
         ensures { λ r. ⌜ Moves (step (place-of (now (self .entry))) (left (now (words .entry)))) r (place-of (now (self .entry))) (place-of (now (self .exit))) (now (out .entry)) (now (out .exit)) ⌝ }
     {

@@ -16,10 +16,10 @@ use text::reason::Reason;
 use text::words::Words;
 use text::words::is_passed_over;
 
-/// A script that is being answered.
+// A script that is being answered.
 #[derive(Drop)]
-pub struct Session {
-    /// How many lines were read.
+struct Session {
+    // How many lines were read.
     line: u64,
     stage: Stage,
 }
@@ -36,8 +36,8 @@ fn write_reason(reasons: &mut String, line: u64, reason: Reason) -> fmt::Result 
 }
 
 impl Session {
-    /// A script of which nothing was read.
-    pub fn new() -> Session
+    // A script of which nothing was read.
+    fn new() -> Session
         ensures { λ r. ⌜ (r .line ≡ 0) × (place-of (r .stage) ≡ start) ⌝ }
     {
         Session {
@@ -46,7 +46,7 @@ impl Session {
         }
     }
 
-    /// Answers one line: what is due goes to the end of `out`, and why the line is no command to that of `reasons`.
+    // Answers one line: what is due goes to the end of `out`, and why the line is no command to that of `reasons`.
     pub fn answer(
         &mut self,
         heap: Global,

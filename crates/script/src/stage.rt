@@ -1,6 +1,6 @@
+use ranges::ranges::Ranges;
 use script_head::head::Set;
 use script_head::head::Wrapping;
-use ranges::ranges::Ranges;
 
 /// Where a script stands.
 #[derive(Drop)]

@@ -20,9 +20,13 @@ use Rattle.std.specs.declared.result.Result.the-variants.{Ok, Err}
 use Rattle.std.specs.declared.string.String.{String}
 use Rattle.text.specs.Readers.{Read, reads-end, reads-this, then}
 use Rattle.text.specs.declared.reason.Reason.{Reason}
-use Rattle.trace_read.specs.Insts.{Reader, bare-p, bare-q, reads-reg, reads-set}
+use Rattle.trace_read.specs.Insts.{Reader, bare-p, bare-q, reads-charged, reads-reg, reads-set}
 use Rattle.trace_show.specs.Shown.{shown-text}
 use Rattle.wrappers.specs.Layers.{Layer, Under, charge, fence, wrapped}
+
+-- an instruction that is charged three times
+abbrev pub nested-thrice : Reader → Reader
+nested-thrice below = reads-charged (reads-charged (reads-charged below))
 
 -- what is read where nothing is left
 abbrev pub value : {A : Type 0} → Read A → Result A Reason

@@ -1,12 +1,12 @@
 //! The answer to `show`: what an instruction means.
 ghost use mathlib.Core.Path.{_≡_};
 ghost use Rattle.script_head.specs.Heads.{wrapping-list};
-ghost use Rattle.script_show.specs.Shows.{ShowsBy, ShowsUnder, bare-reader};
+ghost use Rattle.script_show.specs.Shows.{ShowsBy, ShowsUnder, bare-reader, nested-thrice};
 ghost use Rattle.text.specs.Readers.{left};
+use machinst::inst::MachInst;
 use script_head::head::Set;
 use script_head::head::Wrapping;
 use script_head::stop::Stop;
-use machinst::inst::MachInst;
 use set_p::P;
 use set_q::Q;
 use text::words::Words;
@@ -18,8 +18,6 @@ use trace_read::read::ReadInst;
 use trace_show::show::write_meaning;
 use wrappers::charged::Charged;
 use wrappers::fenced::Fenced;
-
-type Six<I> = Charged<Charged<Charged<Charged<Charged<Charged<I>>>>>>;
 
 // Reads one instruction of this type from all of the words, and writes what it means.
 fn show_as<I: ReadInst + Drop>(words: &mut Words, out: &mut String) -> Result<(), Stop>
@@ -38,6 +36,19 @@ fn show_as<I: ReadInst + Drop>(words: &mut Words, out: &mut String) -> Result<()
     }
 }
 
+// The same under `Charged` three times, and six times.
+fn show_three<I: ReadInst + Copy>(words: &mut Words, out: &mut String) -> Result<(), Stop>
+    ensures { λ r. ⌜ ShowsBy (nested-thrice (I·ReadInst .reads)) (left (now (words .entry))) r (now (out .entry)) (now (out .exit)) ⌝ }
+{
+    show_as::<Charged<Charged<Charged<I>>>>(words, out)
+}
+
+fn show_six<I: ReadInst + Copy>(words: &mut Words, out: &mut String) -> Result<(), Stop>
+    ensures { λ r. ⌜ ShowsBy (nested-thrice (nested-thrice (I·ReadInst .reads))) (left (now (words .entry))) r (now (out .entry)) (now (out .exit)) ⌝ }
+{
+    show_three::<Charged<Charged<Charged<I>>>>(words, out)
+}
+
 // The same of a bare instruction of this type under wrappers.
 fn show_under<B: ReadInst + Copy>(
     wrapping: Wrapping,
@@ -54,9 +65,9 @@ fn show_under<B: ReadInst + Copy>(
         Wrapping::ChargedFenced => show_as::<Fenced<Charged<B>>>(words, out),
         Wrapping::FencedCharged => show_as::<Charged<Fenced<B>>>(words, out),
         Wrapping::FencedTwice => show_as::<Fenced<Fenced<B>>>(words, out),
-        Wrapping::ChargedSix => show_as::<Six<B>>(words, out),
-        Wrapping::ChargedSeven => show_as::<Six<Charged<B>>>(words, out),
-        Wrapping::ChargedEight => show_as::<Six<Charged<Charged<B>>>>(words, out),
+        Wrapping::ChargedSix => show_six::<B>(words, out),
+        Wrapping::ChargedSeven => show_six::<Charged<B>>(words, out),
+        Wrapping::ChargedEight => show_six::<Charged<Charged<B>>>(words, out),
     }
 }
 

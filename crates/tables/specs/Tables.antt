@@ -4,7 +4,7 @@ use lib.ListN.{length, getD}
 use mathlib.Core.List.{List}
 use mathlib.Core.Path.{_≡_}
 use Prim.Native.Nat.{ℕ, _<_, _≤_}
-use Rattle.std.specs.Changed.{refilled, with-item}
+use Rattle.std.specs.Changed.{refilled}
 use Rattle.std.specs.Of.Vec.{vec-items}
 use Rattle.std.specs.Options.{Cases}
 use Rattle.std.specs.declared.option.Option.{Option}
@@ -27,10 +27,6 @@ module _ {T : Type 0} where
   -- the table with ws, as many as there are entries, in their place
   abbrev pub refitted : Table T → List T → Table T
   refitted t ws = record { items = refilled (t .items) ws; id = t .id; limit = t .limit; within = t .within; room = t .room }
-
-  -- the table with w as its entry i
-  abbrev pub with-entry : Table T → ℕ → T → Table T
-  with-entry t i w = record { items = with-item (t .items) i w; id = t .id; limit = t .limit; within = t .within; room = t .room }
 
   -- what a look-up of entry i finds: that entry, or nothing where i is past the last
   abbrev pub EntryAt : List T → ℕ → Option (RefT T) → Type 0

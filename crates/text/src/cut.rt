@@ -4,7 +4,7 @@ ghost use Prim.Native.Nat.{ℕ, _<_, _≤_};
 ghost use lib.ListN.{length, getD};
 
 /// How many bytes of `text` stand before the first `byte`.
-pub fn bytes_before(text: &[u8], byte: u8) -> usize
+pub(crate) fn bytes_before(text: &[u8], byte: u8) -> usize
     ensures within { λ r. ⌜ r ≤ length (now (text .entry)) ⌝ }
     ensures before { λ r. ⌜ ((k : ℕ) → k < r → getD (now (text .entry)) k 0 ≡ byte → ⊥) ⌝ }
     ensures found { λ r. ⌜ (r < length (now (text .entry)) → getD (now (text .entry)) r 0 ≡ byte) ⌝ }

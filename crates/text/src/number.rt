@@ -8,7 +8,7 @@ use crate::reason::Reason;
 const LIMIT: u128 = 1 << 64;
 
 /// The number that the digits of `word` write, which has to be at most `max`.
-pub fn number(word: &[u8], max: u64) -> Result<u64, Reason>
+pub(crate) fn number(word: &[u8], max: u64) -> Result<u64, Reason>
     ensures { λ r. ⌜ r ≡ read-number (max + 1) (now (word .entry)) ⌝ }
 {
     if word.is_empty() {

@@ -76,13 +76,6 @@ impl<'a> Words<'a> {
         Ok(self.number_up_to(u8::MAX as u64)? as u8)
     }
 
-    /// Takes the next word as a number of 16 bits.
-    pub fn number16(&mut self) -> Result<u16, Reason>
-        ensures { λ r. ⌜ Gives (reads-number 16) (now (self .entry)) r (now (self .exit)) ⌝ }
-    {
-        Ok(self.number_up_to(u16::MAX as u64)? as u16)
-    }
-
     /// Takes the next word as a number of 32 bits.
     pub fn number32(&mut self) -> Result<u32, Reason>
         ensures { λ r. ⌜ Gives (reads-number 32) (now (self .entry)) r (now (self .exit)) ⌝ }

@@ -71,8 +71,8 @@ fn write_flags(out: &mut String, trap: u8, call: &str, included: u8, low: u8) ->
     )
 }
 
-/// Writes what an instruction is, but for its registers: all of its first line but the end.
-pub fn write_inst<I: MachInst>(out: &mut String, i: usize, inst: &I) -> fmt::Result
+// Writes what an instruction is, but for its registers: all of its first line but the end.
+fn write_inst<I: MachInst>(out: &mut String, i: usize, inst: &I) -> fmt::Result
     ensures { λ r. ⌜ Appends r (now (out .entry)) (now (out .exit)) (inst-text i (meaning (now (inst .entry)))) ⌝ }
 {
     write_payload(out, i, inst.payload(), terminator_text(inst.is_term()))?;
@@ -113,8 +113,8 @@ fn write_newline(out: &mut String) -> fmt::Result
     write!(out, "\n")
 }
 
-/// Writes the line of the registers that an instruction clobbers.
-pub fn write_clobbers(out: &mut String, i: usize, set: PRegSet) -> fmt::Result
+// Writes the line of the registers that an instruction clobbers.
+fn write_clobbers(out: &mut String, i: usize, set: PRegSet) -> fmt::Result
     ensures { λ r. ⌜ Appends r (now (out .entry)) (now (out .exit)) (clobbers-text i (member set)) ⌝ }
 {
     write_clobbers_head(out, i)?;
@@ -164,8 +164,8 @@ fn write_slot_end(out: &mut String, kind: &str, pos: &str) -> fmt::Result
     write!(out, " {kind} {pos}\n")
 }
 
-/// Writes the line of an instruction's slot k, under the name that is given.
-pub fn write_slot(out: &mut String, i: usize, name: &str, k: usize, slot: Operand) -> fmt::Result
+// Writes the line of an instruction's slot k, under the name that is given.
+fn write_slot(out: &mut String, i: usize, name: &str, k: usize, slot: Operand) -> fmt::Result
     ensures { λ r. ⌜ Appends r (now (out .entry)) (now (out .exit)) (slot-text i (now (name .entry)) k (slot-of slot)) ⌝ }
 {
     write_slot_head(out, i, name, k, slot.reg.0)?;
@@ -173,8 +173,8 @@ pub fn write_slot(out: &mut String, i: usize, name: &str, k: usize, slot: Operan
     write_slot_end(out, kind_text(slot.kind), pos_text(slot.pos))
 }
 
-/// Writes a line for each slot of an instruction.
-pub fn write_slots<I: MachInst>(out: &mut String, i: usize, inst: &I) -> fmt::Result
+// Writes a line for each slot of an instruction.
+fn write_slots<I: MachInst>(out: &mut String, i: usize, inst: &I) -> fmt::Result
     ensures { λ r. ⌜ (length (slots-of (meaning (now (inst .entry)))) < 2 ^ 64 → Appends r (now (out .entry)) (now (out .exit)) (slots-text i (codes "slot") 0 (slots-of (meaning (now (inst .entry)))))) ⌝ }
 {
     for k in 0..usize::MAX {

@@ -111,17 +111,9 @@ impl Ranges {
         self.reverse_index();
         Ok(())
     }
-
-    /// Removes every range, and numbers those to come from the first.
-    pub fn clear(&mut self)
-        ensures { λ _. ⌜ spans (now (self .exit)) ≡ no-spans (spans (now (self .entry)) .id) (spans (now (self .entry)) .most) ⌝ }
-    {
-        self.ends.clear();
-        self.reversed = false;
-    }
 }
 
-/// Replaces each endpoint `e`, the leading 0 too, by `target_len - e`, and reverses the endpoints.
+// Replaces each endpoint `e`, the leading 0 too, by `target_len - e`, and reverses the endpoints.
 fn reverse_ends(ends: &mut [u32], target_len: u32)
     requires { ⌜ ((k : ℕ) → getD (now ends) k 0 ≤ «target_len») ⌝ }
     ensures after { λ _. ⌜ now (ends .exit) ≡ reversed-ends «target_len» (now (ends .entry)) ⌝ }

@@ -1,17 +1,16 @@
 ghost use Prim.Native.Nat.{_<_, _≤_};
 ghost use denote.Array.{Array};
-ghost use denote.Follow.{follows, follows-if};
+ghost use denote.Follow.{follows};
 ghost use denote.Ref.{name};
 ghost use ghost.Atoms.{sem};
-ghost use lib.ListN.{length, set};
+ghost use lib.ListN.{length};
 ghost use mathlib.Core.Bool.{true, false};
 ghost use mathlib.Core.List.{[], _∷_, _++_, reverse};
 ghost use mathlib.Core.Path.{_≡_};
-ghost use Rattle.std.specs.Changed.{nameOf};
 ghost use Rattle.std.specs.Results.{Cases};
 ghost use Rattle.std.specs.Vec.{made};
 ghost use Rattle.faults.specs.TableIds.{capacity-of};
-ghost use Rattle.tables.specs.Tables.{entries, bound, id-of, refitted, with-entry, EntryAt};
+ghost use Rattle.tables.specs.Tables.{entries, bound, id-of, refitted, EntryAt};
 ghost use Rattle.tables.specs.contracts.table.Table.{the-row};
 ghost use Rattle.faults.specs.declared.fault.Fault.the-variants.{Full};
 use super::Table;
@@ -30,13 +29,6 @@ impl<T> Table<T> {
         Ok(Table { items, id, limit })
     }
 
-    /// Which table this is.
-    pub fn id(&self) -> TableId
-        ensures { λ r. ⌜ r ≡ id-of (now (self .entry)) ⌝ }
-    {
-        self.id
-    }
-
     /// The number of entries.
     pub fn len(&self) -> usize
         ensures { λ r. ⌜ r ≡ length (entries (now (self .entry))) ⌝ }
@@ -44,15 +36,8 @@ impl<T> Table<T> {
         self.items.len()
     }
 
-    /// The number of entries that there is room for.
-    pub fn limit(&self) -> usize
-        ensures { λ r. ⌜ r ≡ bound (now (self .entry)) ⌝ }
-    {
-        self.limit
-    }
-
-    /// Whether there is no room for another entry.
-    pub fn is_full(&self) -> bool
+    // Whether there is no room for another entry.
+    fn is_full(&self) -> bool
         ensures { λ r. ⌜ elim r [ true ↦ length (entries (now (self .entry))) ≡ bound (now (self .entry)) | false ↦ length (entries (now (self .entry))) < bound (now (self .entry)) ] ⌝ }
     {
         self.len() >= self.limit
@@ -110,36 +95,7 @@ impl<T> Table<T> {
         ensures id { λ _. ⌜ id-of (now (self .exit)) ≡ id-of (now (self .entry)) ⌝ }
         ensures limit { λ _. ⌜ bound (now (self .exit)) ≡ bound (now (self .entry)) ⌝ }
     {
-        if self.items.len() < self.limit {
-            self.items.push_reserved(x);
-        }
-    }
-
-    /// Removes every entry.
-    pub fn clear(&mut self)
-    where
-        T: Drop,
-        ensures items { λ _. ⌜ entries (now (self .exit)) ≡ [] ⌝ }
-        ensures id { λ _. ⌜ id-of (now (self .exit)) ≡ id-of (now (self .entry)) ⌝ }
-        ensures limit { λ _. ⌜ bound (now (self .exit)) ≡ bound (now (self .entry)) ⌝ }
-    {
-        self.items.clear();
-    }
-
-    /// Puts `x` in the place of entry `i`, or hands it back where there is no such entry.
-    pub fn set(&mut self, i: usize, x: T) -> Result<(), T>
-    where
-        T: Drop,
-        ensures cases { λ r. ⌜ Cases r (λ _. (i < length (entries (now (self .entry)))) × (entries (now (self .exit)) ≡ set (entries (now (self .entry))) i x)) (λ y. (length (entries (now (self .entry))) ≤ i) × (y ≡ x) × (now (self .exit) ≡ now (self .entry))) ⌝ }
-        ensures id { λ _. ⌜ id-of (now (self .exit)) ≡ id-of (now (self .entry)) ⌝ }
-        ensures limit { λ _. ⌜ bound (now (self .exit)) ≡ bound (now (self .entry)) ⌝ }
-    {
-        if i < self.items.len() {
-            self.items[i] = x;
-            Ok(())
-        } else {
-            Err(x)
-        }
+        let _ = self.push(x);
     }
 
     /// The entries, to be changed in place.
@@ -148,13 +104,6 @@ impl<T> Table<T> {
         ensures value { λ r. ⌜ now r ≡ entries (now (self .entry)) ⌝ }
     {
         self.items.as_mut_slice()
-    }
-
-    /// Entry `i`, to be changed in place, if there is one.
-    pub fn get_mut(&mut self, i: usize) -> Option<&mut T>
-        ensures { λ r. sem 𝓤 H A (follows-if (the-row T·row) T·row (name (self .entry)) (nameOf r) (with-entry (now (self .entry)) i) (now (self .entry))) ∗ ⌜ EntryAt (entries (now (self .entry))) i r ⌝ }
-    {
-        self.items.get_mut(i)
     }
 
     /// Reverses the order of the entries.

@@ -33,12 +33,12 @@ returns-in-FencedTwice g c =
 
 pub returns-in-ChargedSix : need.returns-in-ChargedSix
 returns-in-ChargedSix g c =
-    shows-at (c .args .wrapping) to.ChargedSix (g .B·ReadInst .reads) (left (c .args .words .now)) (c .show-as-in-ChargedSix .result) (c .args .out .now) (c .show-as-in-ChargedSix .last .out) (c .in-ChargedSix .is) (c .show-as-in-ChargedSix .ensures)
+    shows-at (c .args .wrapping) to.ChargedSix (g .B·ReadInst .reads) (left (c .args .words .now)) (c .show-six .result) (c .args .out .now) (c .show-six .last .out) (c .in-ChargedSix .is) (c .show-six .ensures)
 
 pub returns-in-ChargedSeven : need.returns-in-ChargedSeven
 returns-in-ChargedSeven g c =
-    shows-at (c .args .wrapping) to.ChargedSeven (g .B·ReadInst .reads) (left (c .args .words .now)) (c .show-as-in-ChargedSeven .result) (c .args .out .now) (c .show-as-in-ChargedSeven .last .out) (c .in-ChargedSeven .is) (c .show-as-in-ChargedSeven .ensures)
+    shows-at (c .args .wrapping) to.ChargedSeven (g .B·ReadInst .reads) (left (c .args .words .now)) (c .show-six-in-ChargedSeven .result) (c .args .out .now) (c .show-six-in-ChargedSeven .last .out) (c .in-ChargedSeven .is) (c .show-six-in-ChargedSeven .ensures)
 
 pub returns-in-ChargedEight : need.returns-in-ChargedEight
 returns-in-ChargedEight g c =
-    shows-at (c .args .wrapping) to.ChargedEight (g .B·ReadInst .reads) (left (c .args .words .now)) (c .show-as-in-ChargedEight .result) (c .args .out .now) (c .show-as-in-ChargedEight .last .out) (c .in-ChargedEight .is) (c .show-as-in-ChargedEight .ensures)
+    shows-at (c .args .wrapping) to.ChargedEight (g .B·ReadInst .reads) (left (c .args .words .now)) (c .show-six-in-ChargedEight .result) (c .args .out .now) (c .show-six-in-ChargedEight .last .out) (c .in-ChargedEight .is) (c .show-six-in-ChargedEight .ensures)
