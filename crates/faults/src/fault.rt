@@ -7,11 +7,11 @@ use crate::table_id::TableId;
 pub enum Fault {
     /// A table has no room for what would be added; the place is the number of the table.
     Full(TableId),
-    /// There are not enough registers left; the place is how many were allocated before.
+    /// There are not enough registers left; the place is how many there were before, the physical ones included.
     RegsExhausted(usize),
     /// No register holds a value of a type; the place is the type.
     UnsupportedType(u16),
-    /// A register was not allocated; the place is its position among those that were passed.
+    /// A register word is not one that the call accepts; the place is its position among those that were passed.
     UnknownReg(usize),
     /// A register would become an alias of itself; the place is the index of that register.
     AliasCycle(usize),
