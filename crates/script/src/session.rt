@@ -47,7 +47,7 @@ impl Session {
     }
 
     // Answers one line: what is due goes to the end of `out`, and why the line is no command to that of `reasons`.
-    pub fn answer(
+    fn answer(
         &mut self,
         heap: Global,
         line: &[u8],

@@ -100,34 +100,34 @@ wrapping-of (Charged ∷ Fenced ∷ x ∷ xs) = None
 wrapping-of (Fenced ∷ Charged ∷ x ∷ xs) = None
 wrapping-of (Fenced ∷ Fenced ∷ x ∷ xs) = None
 
+-- five lengths
+abbrev pub reads-five : List (List ℕ) → Read (ℕ × ℕ × ℕ × ℕ × ℕ)
+reads-five ws =
+    then (reads-number 64 ws) (λ a ws.
+    then (reads-number 64 ws) (λ b ws.
+    then (reads-number 64 ws) (λ c ws.
+    then (reads-number 64 ws) (λ d ws.
+    then (reads-number 64 ws) (λ e ws.
+    Ok ((a, b, c, d, e), ws))))))
+
+-- the lengths of tables 0 to 9
 abbrev pub reads-lengths : List (List ℕ) → Read Lengths
 reads-lengths ws =
-    then (reads-number 64 ws) (λ l0 ws.
-    then (reads-number 64 ws) (λ l1 ws.
-    then (reads-number 64 ws) (λ l2 ws.
-    then (reads-number 64 ws) (λ l3 ws.
-    then (reads-number 64 ws) (λ l4 ws.
-    then (reads-number 64 ws) (λ l5 ws.
-    then (reads-number 64 ws) (λ l6 ws.
-    then (reads-number 64 ws) (λ l7 ws.
-    then (reads-number 64 ws) (λ l8 ws.
-    then (reads-number 64 ws) (λ l9 ws.
+    then (reads-five ws) (λ low ws.
+    then (reads-five ws) (λ high ws.
     then (reads-end ws) (λ u ws.
-    Ok (
-      record {
-        registers = l0;
-        insts = l1;
-        blocks = l2;
-        succs = l3;
-        «branch_args» = l4;
-        «block_params» = l5;
-        labels = l6;
-        operands = l7;
-        preds = l8;
-        «built_labels» = l9;
-      },
-      ws,
-    ))))))))))))
+    Ok (record {
+      registers = low .0;
+      insts = low .1;
+      blocks = low .2;
+      succs = low .3;
+      «branch_args» = low .4;
+      «block_params» = high .0;
+      labels = high .1;
+      operands = high .2;
+      preds = high .3;
+      «built_labels» = high .4;
+    }, ws))))
 
 -- a register table under 192 is refused
 abbrev pub new-fault : Lengths → Option Fault

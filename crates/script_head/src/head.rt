@@ -1,6 +1,6 @@
 //! The head of a script: the set, the wrappers and the lengths of the tables.
 ghost use mathlib.Core.Path.{_≡_};
-ghost use Rattle.script_head.specs.Heads.{Lists, new-fault, reads-lengths, reads-set, set-named, wrapper-named, wrappers-of, wrapping-of};
+ghost use Rattle.script_head.specs.Heads.{Lists, new-fault, reads-five, reads-lengths, reads-set, set-named, wrapper-named, wrappers-of, wrapping-of};
 ghost use Rattle.std.specs.Results.{Cases};
 ghost use Rattle.std.specs.declared.option.Option.the-variants.{None, Some};
 ghost use Rattle.text.specs.Readers.{Gives, left};
@@ -133,24 +133,38 @@ impl Wrapping {
     }
 }
 
+type Five = (u64, u64, u64, u64, u64);
+
+fn read_five(words: &mut Words) -> Result<Five, Reason>
+    ensures { λ r. ⌜ Gives reads-five (now (words .entry)) r (now (words .exit)) ⌝ }
+{
+    let a = words.number64()?;
+    let b = words.number64()?;
+    let c = words.number64()?;
+    let d = words.number64()?;
+    let e = words.number64()?;
+    Ok((a, b, c, d, e))
+}
+
 /// Reads the lengths of the ten tables, and nothing after them.
 pub fn read_lengths(words: &mut Words) -> Result<Lengths, Reason>
     ensures { λ r. ⌜ Gives reads-lengths (now (words .entry)) r (now (words .exit)) ⌝ }
 {
-    let lengths = Lengths {
-        registers: words.number64()?,
-        insts: words.number64()?,
-        blocks: words.number64()?,
-        succs: words.number64()?,
-        branch_args: words.number64()?,
-        block_params: words.number64()?,
-        labels: words.number64()?,
-        operands: words.number64()?,
-        preds: words.number64()?,
-        built_labels: words.number64()?,
-    };
+    let (registers, insts, blocks, succs, branch_args) = read_five(words)?;
+    let (block_params, labels, operands, preds, built_labels) = read_five(words)?;
     words.end()?;
-    Ok(lengths)
+    Ok(Lengths {
+        registers,
+        insts,
+        blocks,
+        succs,
+        branch_args,
+        block_params,
+        labels,
+        operands,
+        preds,
+        built_labels,
+    })
 }
 
 /// Refuses a register table that has no room for the physical registers.
