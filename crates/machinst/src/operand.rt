@@ -59,7 +59,7 @@ impl Operand {
         ensures { λ r. ⌜ slot-of r ≡ late-def (constraint-case constraint) (to .reg .0) ⌝ }
     {
         Operand {
-            reg: to.to_reg(),
+            reg: to.reg,
             constraint,
             kind: OperandKind::Def,
             pos: OperandPos::Late,

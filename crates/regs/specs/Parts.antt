@@ -12,9 +12,3 @@ module _ {R : Type 0} where
 
   abbrev pub value-regs : ValueRegs R → List R
   value-regs v = with-second (v .first) (v .second)
-
-  -- the register of a list of one
-  abbrev pub only : List R → Option R
-  only [] = None
-  only (a ∷ []) = Some a
-  only (a ∷ b ∷ rest) = None

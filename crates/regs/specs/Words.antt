@@ -1,7 +1,7 @@
 -- Register words: bit 31 marks a spill slot, any other word is 4 × index + class.
 use lib.Dec.{leb, ltb}
-use mathlib.Core.Bool.{Bool, true, false, cond, not, _||_}
-use Prim.Native.Nat.{ℕ, _+_, _*_, _/_, _%_, _^_}
+use mathlib.Core.Bool.{Bool, cond}
+use Prim.Native.Nat.{ℕ, _/_, _%_, _^_}
 use Rattle.std.specs.declared.option.Option.{Option}
 use Rattle.std.specs.declared.option.Option.the-variants.{None, Some}
 
@@ -22,10 +22,3 @@ word-class w = cond (spill-slot w) None (cond (ltb (w % 4) 3) (Some (w % 4)) Non
 -- physical registers have the indexes below 192, whatever the class; no spill slot has such an index
 abbrev pub physical : ℕ → Bool
 physical w = ltb (index-of w) 192
-
-abbrev pub real-reg : ℕ → Option ℕ
-real-reg w = cond (physical w) (Some (index-of w)) None
-
--- the word of an index and a class, where bit 31 stays clear
-abbrev pub reg-word : ℕ → ℕ → Option ℕ
-reg-word index class = cond (ltb index (2 ^ 29)) (Some (4 * index + class)) None

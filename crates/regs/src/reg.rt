@@ -1,7 +1,6 @@
-ghost use mathlib.Core.Bool.{true, false};
 ghost use mathlib.Core.Path.{_≡_};
 ghost use Rattle.regs.specs.Classes.{class-number};
-ghost use Rattle.regs.specs.Words.{spill-slot, physical, index-of, word-class, word-index, real-reg, reg-word};
+ghost use Rattle.regs.specs.Words.{physical, spill-slot, word-class, word-index};
 ghost use Rattle.std.specs.Options.{mapped};
 
 /// The bit that marks a spill slot.
@@ -50,17 +49,6 @@ impl RegClass {
 }
 
 impl Reg {
-    /// The register of an index and a class, where the index is small enough for a word.
-    pub fn new(index: u32, class: RegClass) -> Option<Reg>
-        ensures { λ r. ⌜ mapped (λ w. w .0) r ≡ reg-word index (class-number class) ⌝ }
-    {
-        if index < SPILLSLOT_BIT / 4 {
-            Some(Reg(4 * index + class.number()))
-        } else {
-            None
-        }
-    }
-
     /// Whether the word is a spill slot.
     pub fn is_spillslot(self) -> bool
         ensures { λ r. ⌜ r ≡ spill-slot (self .0) ⌝ }
@@ -99,33 +87,5 @@ impl Reg {
         ensures { λ r. ⌜ r ≡ physical (self .0) ⌝ }
     {
         self.0 / 4 < PINNED_VREGS
-    }
-
-    /// The physical register that the word names.
-    pub fn to_real_reg(self) -> Option<PReg>
-        ensures { λ r. ⌜ mapped (λ p. p .0) r ≡ real-reg (self .0) ⌝ }
-    {
-        if self.is_real() {
-            Some(PReg((self.0 / 4) as u8))
-        } else {
-            None
-        }
-    }
-}
-
-impl<T> Writable<T> {
-    /// Marks a register as written.
-    pub fn from_reg(reg: T) -> Writable<T>
-        ensures { λ r. ⌜ r .reg ≡ reg ⌝ }
-    {
-        Writable { reg }
-    }
-
-    /// The register itself, to be read.
-    pub fn to_reg(self) -> T
-        ensures { λ r. ⌜ r ≡ self .reg ⌝ }
-    {
-        let Writable { reg } = self;
-        reg
     }
 }

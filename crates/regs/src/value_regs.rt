@@ -1,7 +1,7 @@
 ghost use lib.ListN.{length};
 ghost use mathlib.Core.List.{[], _∷_};
 ghost use mathlib.Core.Path.{_≡_};
-ghost use Rattle.regs.specs.Parts.{only, value-regs};
+ghost use Rattle.regs.specs.Parts.{value-regs};
 ghost use Rattle.std.specs.Finite.{nth};
 
 /// The one or two registers that hold a value.
@@ -39,16 +39,6 @@ impl<R: Copy> ValueRegs<R> {
         match self.second {
             None => 1,
             Some(_) => 2,
-        }
-    }
-
-    /// The register, where there is only one.
-    pub fn only_reg(&self) -> Option<R>
-        ensures { λ r. ⌜ r ≡ only (value-regs (now (self .entry))) ⌝ }
-    {
-        match self.second {
-            None => Some(self.first),
-            Some(_) => None,
         }
     }
 

@@ -196,7 +196,12 @@ fn alone_command(ranges: &mut Ranges, words: &mut Words, out: &mut String) -> Re
 
 impl Stage {
     // Answers the words of a line that is not passed over, and goes on to the next stage.
-    pub(crate) fn answer(&mut self, heap: Global, words: &mut Words, out: &mut String) -> Result<(), Stop>
+    pub(crate) fn answer(
+        &mut self,
+        heap: Global,
+        words: &mut Words,
+        out: &mut String,
+    ) -> Result<(), Stop>
         ensures { λ r. ⌜ Moves (step (place-of (now (self .entry))) (left (now (words .entry)))) r (place-of (now (self .entry))) (place-of (now (self .exit))) (now (out .entry)) (now (out .exit)) ⌝ }
     {
         match self {

@@ -116,18 +116,21 @@ reads-lengths ws =
     then (reads-five ws) (λ low ws.
     then (reads-five ws) (λ high ws.
     then (reads-end ws) (λ u ws.
-    Ok (record {
-      registers = low .0;
-      insts = low .1;
-      blocks = low .2;
-      succs = low .3;
-      «branch_args» = low .4;
-      «block_params» = high .0;
-      labels = high .1;
-      operands = high .2;
-      preds = high .3;
-      «built_labels» = high .4;
-    }, ws))))
+    Ok (
+      record {
+        registers = low .0;
+        insts = low .1;
+        blocks = low .2;
+        succs = low .3;
+        «branch_args» = low .4;
+        «block_params» = high .0;
+        labels = high .1;
+        operands = high .2;
+        preds = high .3;
+        «built_labels» = high .4;
+      },
+      ws,
+    ))))
 
 -- a register table under 192 is refused
 abbrev pub new-fault : Lengths → Option Fault

@@ -10,7 +10,7 @@ ghost use mathlib.Core.Path.{_≡_};
 ghost use Rattle.std.specs.Results.{Cases};
 ghost use Rattle.std.specs.Vec.{made};
 ghost use Rattle.faults.specs.TableIds.{capacity-of};
-ghost use Rattle.tables.specs.Tables.{entries, bound, id-of, refitted, EntryAt};
+ghost use Rattle.tables.specs.Tables.{entries, bound, id-of, refitted};
 ghost use Rattle.tables.specs.contracts.table.Table.{the-row};
 ghost use Rattle.faults.specs.declared.fault.Fault.the-variants.{Full};
 use super::Table;
@@ -59,17 +59,6 @@ impl<T> Table<T> {
         ensures { λ r. ⌜ now r ≡ entries (now (self .entry)) ⌝ }
     {
         self.items.as_slice()
-    }
-
-    /// Entry `i`, if there is one.
-    pub fn get(&self, i: usize) -> Option<&T>
-        ensures { λ r. ⌜ EntryAt (entries (now (self .entry))) i r ⌝ }
-    {
-        if i < self.items.len() {
-            Some(&self.items[i])
-        } else {
-            None
-        }
     }
 
     /// Adds `x` as the last entry, or hands it back where the table is full.
