@@ -34,7 +34,7 @@ fn charged<I>(inner: I) -> Charged<I> {
     }
 }
 
-pub fn parts_of_types() -> bool {
+pub(crate) fn parts_of_types() -> bool {
     parts::<P>(1) == (1, 0, 1)
         && parts::<P>(2) == (1, 1, 2)
         && parts::<P>(3) == (2, 0, 1)
@@ -46,7 +46,7 @@ pub fn parts_of_types() -> bool {
         && parts::<Q>(5) == (1, 0, 5)
 }
 
-pub fn slot_8_under_six_and_seven() -> bool {
+pub(crate) fn slot_8_under_six_and_seven() -> bool {
     let bare = P::Move {
         s: Reg(768),
         d: Writable { reg: Reg(772) },
@@ -56,7 +56,7 @@ pub fn slot_8_under_six_and_seven() -> bool {
     !six.has_slot(8) && seven.has_slot(8) && word(&seven, 1) == 772 && word(&seven, 8) == 780
 }
 
-pub fn replacing_one_word() -> bool {
+pub(crate) fn replacing_one_word() -> bool {
     let mut q = charged(Q {
         opcode: 2,
         w0: Reg(768),

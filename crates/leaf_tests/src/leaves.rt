@@ -23,7 +23,7 @@ fn class_after(mut calls: FunctionCalls, call: CallType) -> u8 {
     }
 }
 
-pub fn words_of_every_kind() -> bool {
+pub(crate) fn words_of_every_kind() -> bool {
     Reg(767).is_real()
         && !Reg(768).is_real()
         && Reg(3).is_real()
@@ -33,7 +33,7 @@ pub fn words_of_every_kind() -> bool {
         && Reg(0x7fff_ffff).index() == Some(0x1fff_ffff)
 }
 
-pub fn sets_of_registers() -> bool {
+pub(crate) fn sets_of_registers() -> bool {
     let mut set = PRegSet::first(2);
     set.add(PReg(64));
     set.add(PReg(191));
@@ -41,7 +41,7 @@ pub fn sets_of_registers() -> bool {
     set.contains(PReg(1)) && !set.contains(PReg(2)) && set.w1 == 1 && set.contains(PReg(191))
 }
 
-pub fn classes_of_calls() -> bool {
+pub(crate) fn classes_of_calls() -> bool {
     use CallType::{None, Regular, TailCall};
     let from_none = (
         class_after(FunctionCalls::None, None),
@@ -74,7 +74,7 @@ fn reversed_and_full(ranges: &mut Ranges) -> bool {
         && refusal(ranges.push_end(7)) == (15, 7)
 }
 
-pub fn ends_that_are_refused(rt: &LibcRuntime) -> bool {
+pub(crate) fn ends_that_are_refused(rt: &LibcRuntime) -> bool {
     let Ok(mut ranges) = Ranges::alone(rt.alloc(), 2) else {
         return false;
     };

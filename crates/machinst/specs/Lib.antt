@@ -1,4 +1,5 @@
 pub mod Cases
+pub mod Layers
 pub mod Meaning
 pub mod Parts
 pub mod Usual

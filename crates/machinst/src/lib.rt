@@ -1,4 +1,5 @@
 //! Operands, control, and the instruction interface.
 pub mod control;
 pub mod inst;
+pub mod layered;
 pub mod operand;

@@ -34,7 +34,8 @@ use Rattle.text.specs.Readers.{Read, reads-end, reads-number, reads-word, then}
 use Rattle.text.specs.declared.reason.Reason.{Reason}
 use Rattle.text.specs.declared.reason.Reason.the-variants.{NotHere, UnsupportedWrappers}
 use Rattle.trace_show.specs.Shown.{newline}
-use Rattle.wrappers.specs.Layers.{Layer, wrapped}
+use Rattle.machinst.specs.Layers.{Layer}
+use Rattle.wrappers.specs.Wrapped.{wrapped}
 
 -- Where a script stands: at its start, in the head of a function, past that head, at the calls of a range table used
 -- alone, or over.

@@ -21,7 +21,8 @@ use Rattle.text.specs.Readers.{Read, reads-end, reads-this, then}
 use Rattle.text.specs.declared.reason.Reason.{Reason}
 use Rattle.trace_read.specs.Insts.{Reader, reads-charged, reads-fenced, reads-reg, reads-set}
 use Rattle.wrappers.proofs.Stacked.{wrapped-under}
-use Rattle.wrappers.specs.Layers.{Layer, charge, charged-by, fence, fenced-by, wrapped}
+use Rattle.machinst.specs.Layers.{Layer, charge, fence}
+use Rattle.wrappers.specs.Wrapped.{charged-by, fenced-by, wrapped}
 
 -- the readers one around the other, the innermost first
 abbrev pub nested : List Wrapper → Reader → Reader

@@ -22,7 +22,8 @@ use Rattle.text.specs.Readers.{Read, reads-end, reads-this, then}
 use Rattle.text.specs.declared.reason.Reason.{Reason}
 use Rattle.trace_read.specs.Insts.{Reader, bare-p, bare-q, reads-charged, reads-reg, reads-set}
 use Rattle.trace_show.specs.Shown.{shown-text}
-use Rattle.wrappers.specs.Layers.{Layer, Under, charge, fence, wrapped}
+use Rattle.machinst.specs.Layers.{Layer, Under, charge, fence}
+use Rattle.wrappers.specs.Wrapped.{wrapped}
 
 -- an instruction that is charged three times
 abbrev pub nested-thrice : Reader → Reader

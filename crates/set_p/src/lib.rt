@@ -5,6 +5,7 @@ ghost use Rattle.set_p.specs.MeaningP.{meaning-p, moves-p, parts-p};
 use machinst::control::CallType;
 use machinst::control::MachTerminator;
 use machinst::inst::MachInst;
+use machinst::layered::Layered;
 use machinst::operand::Operand;
 use machinst::operand::OperandConstraint;
 use regs::preg_set::PRegSet;
@@ -13,7 +14,6 @@ use regs::reg::Reg;
 use regs::reg::RegClass;
 use regs::reg::Type;
 use regs::reg::Writable;
-use wrappers::layered::Layered;
 
 /// An instruction of set P.
 #[derive(Clone, Copy)]

@@ -7,6 +7,7 @@ ghost use Rattle.set_q.specs.MeaningQ.{meaning-q, moves-q, no-row, parts-q, ro
 use machinst::control::CallType;
 use machinst::control::MachTerminator;
 use machinst::inst::MachInst;
+use machinst::layered::Layered;
 use machinst::operand::Operand;
 use machinst::operand::OperandConstraint;
 use machinst::operand::OperandKind;
@@ -16,7 +17,6 @@ use regs::reg::PReg;
 use regs::reg::Reg;
 use regs::reg::RegClass;
 use regs::reg::Type;
-use wrappers::layered::Layered;
 
 /// An instruction of set Q. Which of its words are slots, and what else it is, the row of its opcode says.
 #[derive(Clone, Copy)]

@@ -22,7 +22,7 @@ use Rattle.text.specs.Readers.{Read, left, reads-number, reads-this, reads-word
 use Rattle.text.specs.declared.reason.Reason.{Reason}
 use Rattle.text.specs.declared.reason.Reason.the-variants.{UnknownWord}
 use Rattle.text.specs.declared.words.Words.{Words}
-use Rattle.wrappers.specs.Layers.{charged-by, fenced-by}
+use Rattle.wrappers.specs.Wrapped.{charged-by, fenced-by}
 
 abbrev pub reads-reg : List (List ℕ) → Read Reg
 reads-reg ws = then (reads-number 32 ws) (λ w ws. Ok (record { 0 = w }, ws))

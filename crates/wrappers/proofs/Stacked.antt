@@ -7,7 +7,9 @@ use Prim.Native.Nat.{ℕ}
 use Rattle.machinst.specs.Meaning.{Meaning, Slot, slots-of}
 use Rattle.machinst.specs.Usual.{early-use, in-reg}
 use Rattle.std.proofs.shelf.Lists.{append-nil}
-use Rattle.wrappers.specs.Layers.{Layer, Under, charge, charged-by, counters, fence, fenced-by, fenced-off, wrapped}
+use Rattle.machinst.proofs.Bare.{or-false, under-none}
+use Rattle.machinst.specs.Layers.{Layer, Under, charge, counters, fence, fenced-off}
+use Rattle.wrappers.specs.Wrapped.{charged-by, fenced-by, wrapped}
 
 counters-more : (ls ms : List Layer) → counters (ls ++ ms) ≡ counters ls ++ counters ms
 counters-more [] ms = refl
@@ -18,23 +20,10 @@ or-assoc : (a b c : Bool) → (a || b) || c ≡ a || (b || c)
 or-assoc true b c = refl
 or-assoc false b c = refl
 
-or-false : (a : Bool) → a || false ≡ a
-or-false true = refl
-or-false false = refl
-
 fenced-more : (ls ms : List Layer) (n : ℕ) → fenced-off (ls ++ ms) n ≡ fenced-off ls n || fenced-off ms n
 fenced-more [] ms n = refl
 fenced-more (charge w ∷ ls) ms n = fenced-more ls ms n
 fenced-more (fence f ∷ ls) ms n = ap (λ (b : Bool). f n || b) (fenced-more ls ms n) ∙ sym (or-assoc (f n) (fenced-off ls n) (fenced-off ms n))
-
-pub under-none : (m : Meaning) → Under [] m m
-under-none m = record {
-  slots = sym (append-nil (slots-of m));
-  clobbers = λ n. sym (or-false (m .operation .clobbers n));
-  move = refl;
-  payload = refl;
-  control = refl;
-}
 
 module _ (ls : List Layer) (bare whole : Meaning) (u : Under ls bare whole) where
   pub under-charge : (w : ℕ) → Under (ls ++ charge w ∷ []) bare (charged-by w whole)

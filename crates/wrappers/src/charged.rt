@@ -1,10 +1,11 @@
 ghost use mathlib.Core.List.{[], _∷_, _++_};
 ghost use mathlib.Core.Path.{_≡_};
-ghost use Rattle.wrappers.specs.Layers.{charge, charged-by, charged-moves};
-use crate::layered::Layered;
+ghost use Rattle.machinst.specs.Layers.{charge};
+ghost use Rattle.wrappers.specs.Wrapped.{charged-by, charged-moves};
 use machinst::control::CallType;
 use machinst::control::MachTerminator;
 use machinst::inst::MachInst;
+use machinst::layered::Layered;
 use machinst::operand::Operand;
 use machinst::operand::OperandConstraint;
 use regs::preg_set::PRegSet;

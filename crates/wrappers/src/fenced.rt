@@ -1,11 +1,12 @@
 ghost use mathlib.Core.List.{[], _∷_, _++_};
 ghost use mathlib.Core.Path.{_≡_};
 ghost use Rattle.regs.specs.Sets.{member};
-ghost use Rattle.wrappers.specs.Layers.{fence, fenced-by};
-use crate::layered::Layered;
+ghost use Rattle.machinst.specs.Layers.{fence};
+ghost use Rattle.wrappers.specs.Wrapped.{fenced-by};
 use machinst::control::CallType;
 use machinst::control::MachTerminator;
 use machinst::inst::MachInst;
+use machinst::layered::Layered;
 use machinst::operand::Operand;
 use regs::preg_set::PRegSet;
 use regs::reg::Reg;

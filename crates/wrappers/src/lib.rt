@@ -1,4 +1,3 @@
 //! Wrappers: instructions made of any other instruction.
 pub mod charged;
 pub mod fenced;
-pub mod layered;

@@ -11,7 +11,8 @@ use Rattle.std.specs.declared.result.Result.{Result}
 use Rattle.std.specs.declared.result.Result.the-variants.{Ok}
 use Rattle.text.specs.Readers.{left}
 use Rattle.text.specs.declared.reason.Reason.{Reason}
-use Rattle.wrappers.specs.Layers.{Layer, wrapped}
+use Rattle.machinst.specs.Layers.{Layer}
+use Rattle.wrappers.specs.Wrapped.{wrapped}
 
 pub returns-in-Ok : need.returns-in-Ok
 returns-in-Ok c =

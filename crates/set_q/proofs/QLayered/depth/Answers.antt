@@ -1,6 +1,6 @@
 use mathlib.Core.Path.{refl}
 use Rattle.set_q.proofs.QLayered.depth.Needs as need
-use Rattle.wrappers.proofs.Stacked.{under-none}
+use Rattle.machinst.proofs.Bare.{under-none}
 
 pub returns : need.returns
 returns c = record { depth = refl; under = under-none _ }

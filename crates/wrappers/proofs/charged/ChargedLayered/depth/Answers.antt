@@ -2,7 +2,7 @@ use native.Mathlib.Omega.{arith}
 use Rattle.std.proofs.shelf.Lists.{length-push}
 use Rattle.wrappers.proofs.Stacked.{under-charge}
 use Rattle.wrappers.proofs.charged.ChargedLayered.depth.Needs as need
-use Rattle.wrappers.specs.Layers.{charge}
+use Rattle.machinst.specs.Layers.{charge}
 
 pub returns : need.returns
 returns g c =

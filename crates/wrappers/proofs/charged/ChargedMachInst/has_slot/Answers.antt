@@ -2,7 +2,7 @@ use mathlib.Core.Path.{sym, ap, _∙_}
 use lib.Dec.{eqb}
 use Rattle.std.specs.Options.{isSome}
 use Rattle.std.specs.Finite.{nth}
-use Rattle.wrappers.specs.Layers.{charged-by}
+use Rattle.wrappers.specs.Wrapped.{charged-by}
 use Rattle.machinst.proofs.Slots.{push-first, push-after}
 use Rattle.wrappers.proofs.charged.ChargedMachInst.has_slot.Needs as need
 

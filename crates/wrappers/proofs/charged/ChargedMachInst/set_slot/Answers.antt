@@ -1,7 +1,7 @@
 use mathlib.Core.Path.{sym, ap, _∙_}
-use Rattle.wrappers.proofs.Wrapped.{word-below, word-counter, word-absent}
+use Rattle.wrappers.proofs.Charging.{word-below, word-counter, word-absent}
 use Rattle.wrappers.proofs.charged.ChargedMachInst.set_slot.Needs as need
-use Rattle.wrappers.specs.Layers.{charged-by}
+use Rattle.wrappers.specs.Wrapped.{charged-by}
 
 pub returns-then-has-slot : need.returns-then-has-slot
 returns-then-has-slot g c =

@@ -5,7 +5,7 @@ use Rattle.machinst.specs.declared.operand.Operand.{Operand}
 use Rattle.std.specs.Options.{isSome, mapped}
 use Rattle.std.specs.declared.option.Option.{Option}
 use Rattle.std.specs.declared.option.Option.the-variants.{None, Some}
-use Rattle.wrappers.proofs.Wrapped.{slot-absent, slot-below, slot-counter}
+use Rattle.wrappers.proofs.Charging.{slot-absent, slot-below, slot-counter}
 use Rattle.wrappers.proofs.charged.ChargedMachInst.slot.Needs as need
 use Rattle.wrappers.proofs.charged.ChargedMachInst.slot.Needs.{else-is-none·by·then-is-none·else-has-slot, else-is-none·by·else-is-none}
 

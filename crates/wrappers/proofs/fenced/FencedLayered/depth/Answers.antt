@@ -3,7 +3,7 @@ use Rattle.regs.specs.Sets.{member}
 use Rattle.std.proofs.shelf.Lists.{length-push}
 use Rattle.wrappers.proofs.Stacked.{under-fence}
 use Rattle.wrappers.proofs.fenced.FencedLayered.depth.Needs as need
-use Rattle.wrappers.specs.Layers.{fence}
+use Rattle.machinst.specs.Layers.{fence}
 
 pub returns : need.returns
 returns g c =

@@ -1,11 +1,11 @@
 -- What wrappers make of a meaning, one at a time and as a list.
 use lib.ListN.{length, length-append}
-use mathlib.Core.Bool.{Bool, true, false, _||_}
+use mathlib.Core.Bool.{Bool, _||_}
 use mathlib.Core.List.{List, [], _∷_, _++_}
-use mathlib.Core.Path.{_≡_}
 use native.Mathlib.Omega.{arith}
 use Prim.Native.Nat.{ℕ, _+_, _<_}
-use Rattle.machinst.specs.Meaning.{Meaning, Move-within, Slot, slots-of, with-slots}
+use Rattle.machinst.specs.Layers.{Layer, charge, fence}
+use Rattle.machinst.specs.Meaning.{Meaning, Move-within, slots-of, with-slots}
 use Rattle.machinst.specs.Usual.{early-use, in-reg}
 use Rattle.std.specs.Options.{Cases}
 use Rattle.std.specs.declared.option.Option.{Option}
@@ -17,49 +17,21 @@ charged-by w m = with-slots m (slots-of m ++ early-use in-reg w ∷ [])
 
 -- the clobbers below, united with the fence
 abbrev pub fenced-by : (ℕ → Bool) → Meaning → Meaning
-fenced-by fence m = record {
+fenced-by regs m = record {
   operation = record {
     slots = slots-of m;
-    clobbers = λ n. m .operation .clobbers n || fence n;
+    clobbers = λ n. m .operation .clobbers n || regs n;
     move = m .operation .move;
     payload = m .operation .payload;
   };
   control = m .control;
 }
 
--- A wrapper: the counter's word, or the registers of a fence.
-pub data Layer : Type 0 where
-  charge : ℕ → Layer
-  fence : (ℕ → Bool) → Layer
-
 -- an instruction under wrappers, the innermost first
 abbrev pub wrapped : List Layer → Meaning → Meaning
 wrapped [] m = m
 wrapped (charge w ∷ layers) m = wrapped layers (charged-by w m)
 wrapped (fence f ∷ layers) m = wrapped layers (fenced-by f m)
-
--- the slots that wrappers add, from the innermost out
-abbrev pub counters : List Layer → List Slot
-counters [] = []
-counters (charge w ∷ layers) = early-use in-reg w ∷ counters layers
-counters (fence f ∷ layers) = counters layers
-
--- whether some wrapper fences a register
-abbrev pub fenced-off : List Layer → ℕ → Bool
-fenced-off [] n = false
-fenced-off (charge w ∷ layers) n = fenced-off layers n
-fenced-off (fence f ∷ layers) n = f n || fenced-off layers n
-
--- What an instruction under any list of wrappers comes to.
-pub record Under (layers : List Layer) (bare whole : Meaning) : Type 0 where
-  -- the bare instruction's slots, and then each counter's Use from the innermost out
-  pub slots : slots-of whole ≡ slots-of bare ++ counters layers
-  -- all clobbers united
-  pub clobbers : (n : ℕ) → whole .operation .clobbers n ≡ bare .operation .clobbers n || fenced-off layers n
-  -- the rest as below
-  pub move : whole .operation .move ≡ bare .operation .move
-  pub payload : whole .operation .payload ≡ bare .operation .payload
-  pub control : whole .control ≡ bare .control
 
 within-longer : (r : Option (ℕ × ℕ)) (n k : ℕ) → Cases r (Unit {0}) (λ p. (p .0 < n) × (p .1 < n)) → Cases r (Unit {0}) (λ p. (p .0 < n + k) × (p .1 < n + k))
 within-longer None n k h = tt

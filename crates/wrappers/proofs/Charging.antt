@@ -10,7 +10,7 @@ use Rattle.machinst.specs.Meaning.{Meaning, slot-at, slots-of, with-slots, with
 use Rattle.machinst.specs.Usual.{early-use, in-reg}
 use Rattle.std.specs.Options.{isSome}
 use Rattle.std.specs.declared.option.Option.the-variants.{Some}
-use Rattle.wrappers.specs.Layers.{charged-by}
+use Rattle.wrappers.specs.Wrapped.{charged-by}
 
 module _ (w : ℕ) (m : Meaning) (k : ℕ) where
   long : length (slots-of (charged-by w m)) ≡ length (slots-of m) + 1

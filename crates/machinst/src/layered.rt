@@ -2,9 +2,9 @@ ghost use lib.ListN.{length};
 ghost use mathlib.Core.List.{List};
 ghost use mathlib.Core.Path.{_≡_};
 ghost use Prim.Native.Nat.{ℕ, _-_, _^_, min};
 ghost use Rattle.machinst.specs.Meaning.{Meaning};
-ghost use Rattle.wrappers.specs.Layers.{Layer, Under};
-use machinst::inst::MachInst;
+ghost use Rattle.machinst.specs.Layers.{Layer, Under};
+use crate::inst::MachInst;
 
 /// An instruction seen as a bare one under a list of wrappers.
 pub trait Layered: MachInst {
