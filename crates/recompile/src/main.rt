@@ -1,9 +1,9 @@
 //! Reads a trace script from the file that is named, or from standard input, and prints its transcript.
-use script::session::run;
 use std::env;
 use std::error::AnyError;
 use std::fs;
 use std::io::Read;
+use trace::session::run;
 
 fn read_script(rt: &LibcRuntime) -> Result<Vec<u8>, AnyError> {
     let mut args = env::args(rt)?;

@@ -1,7 +1,7 @@
 //! Runs each stored script, and compares what it gives with the stored transcript.
-use script::session::run;
 use std::error::AnyError;
 use std::fs;
+use trace::session::run;
 
 fn is_as_stored(rt: &LibcRuntime, name: &str) -> Result<bool, AnyError> {
     let heap = rt.alloc();

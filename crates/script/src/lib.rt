@@ -1,4 +1,0 @@
-//! Answers a trace script, line by line.
-pub mod commands;
-pub mod session;
-pub mod stage;

@@ -1,2 +1,0 @@
-//! A range table that is used alone.
-pub mod alone;

@@ -1,2 +1,0 @@
-//! The answer to `show`.
-pub mod shows;

@@ -1,3 +1,0 @@
-pub mod Lines
-pub mod Numbers
-pub mod Readers

@@ -1,0 +1,10 @@
+pub mod Alone
+pub mod Heads
+pub mod Insts
+pub mod Lines
+pub mod Numbers
+pub mod Readers
+pub mod Runs
+pub mod Shown
+pub mod Shows
+pub mod Steps

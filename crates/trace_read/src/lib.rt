@@ -1,2 +1,0 @@
-//! Instructions as a trace script writes them.
-pub mod read;

@@ -1,2 +1,0 @@
-//! What an instruction means, as a transcript shows it.
-pub mod show;
