@@ -1,4 +1,6 @@
 //! Tests of the builder as a library, with answers written by hand from the rules.
+#![tactic(auto)]
+
 use std::io;
 
 mod building;

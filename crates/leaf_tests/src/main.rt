@@ -1,4 +1,6 @@
 //! Tests of the leaves, with answers written by hand from the rules.
+#![tactic(auto)]
+
 use std::io;
 
 mod interface;

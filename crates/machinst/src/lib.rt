@@ -1,4 +1,6 @@
 //! Operands, control, and the instruction interface.
+#![tactic(auto)]
+
 pub mod control;
 pub mod inst;
 pub mod layered;

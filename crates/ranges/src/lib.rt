@@ -1,2 +1,4 @@
 //! Adjoining ranges over another list.
+#![tactic(auto)]
+
 pub mod ranges;

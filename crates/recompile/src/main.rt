@@ -1,4 +1,6 @@
 //! Reads a trace script from the file that is named, or from standard input, and prints its transcript.
+#![tactic(auto)]
+
 use std::io::Read;
 use std::{env, fs};
 use trace::session::run;

@@ -1,4 +1,6 @@
 //! Instruction set P: an enum with a case for each instruction.
+#![tactic(auto)]
+
 ghost use Rattle.std.specs.Prelude.{◌≡◌, []};
 ghost use Rattle.set_p.specs.MeaningP.{meaning_p, moves_p, parts_p};
 

@@ -1,4 +1,6 @@
 //! Instruction set Q: one record for all instructions, read by a table of rows.
+#![tactic(auto)]
+
 ghost use Rattle.std.specs.Prelude.{◌≡◌, [], slice_index_or};
 ghost use Rattle.machinst.specs.Meaning.{slot_of};
 ghost use Rattle.set_q.specs.MeaningQ.{meaning_q, moves_q, no_row, parts_q, rows, shaped};

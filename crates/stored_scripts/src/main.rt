@@ -1,4 +1,6 @@
 //! Runs each stored script, and compares what it gives with the stored transcript.
+#![tactic(auto)]
+
 use std::fs;
 use trace::session::run;
 

@@ -1,4 +1,6 @@
 //! The trace script: its lines are read, and answered one after another.
+#![tactic(auto)]
+
 mod alone;
 mod commands;
 mod cut;

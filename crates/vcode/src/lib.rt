@@ -1,4 +1,6 @@
 //! The function builder: instructions, blocks, successors, parameters and labels, as they are given from the last to the first.
+#![tactic(auto)]
+
 pub mod block_ranges;
 pub mod builder;
 pub mod call;

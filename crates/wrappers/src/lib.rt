@@ -1,3 +1,5 @@
 //! Wrappers: instructions made of any other instruction.
+#![tactic(auto)]
+
 pub mod charged;
 pub mod fenced;

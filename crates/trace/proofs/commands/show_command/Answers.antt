@@ -16,7 +16,7 @@ returns-in-Ok c =
     let ws = left c.args.words.now in
     let next : Meaning × List Layer → Step = λ p. Ok (head c.args.set c.args.wrapping, meaning (wrapped p.1 p.0)) in (
       meaning (wrapped h.1 h.0),
-      ap (λ (w : Wrapping). with_read (layered (bare_reader c.args.set) (wrapping_list w) ws) next) (sym c.or-bare.ensures)
+      ap (λ (w : Wrapping). with_read (layered (bare_reader c.args.set) (wrapping_list w) ws) next) (sym c.or_bare.ensures)
           ∙ ap (λ (r : Result (Meaning × List Layer) Reason). with_read r next) h.2,
       h.4,
     )

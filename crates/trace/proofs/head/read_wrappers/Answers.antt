@@ -6,4 +6,4 @@ pub loop-word-preserved : goal.loop-word-preserved
 loop-word-preserved c =
     read_more (vec_items c.loop-word.wrappers) _ c.in-Ok.wrapper c.in-Some.word.now _ _ _ _
     c.loop-word.invariant c.in-Some.ensures c.in-Ok.ensures c.push.ensures.items
-    (c.is-err.ensures.negation ∙ ap not c.if-is-err.false)
+    (c.is_err.ensures.negation ∙ ap not c.if-is_err.false)

@@ -16,5 +16,5 @@ run_more p q n m line lines rest before mid after split number due run =
 pub loop-line-preserved : goal.loop-line-preserved
 loop-line-preserved c =
     λ after run.
-    let told = c.in-ok-answer.ensures in
+    let told = c.in_ok-answer.ensures in
     c.loop-line.invariant after (run_more _ _ _ _ c.in-Some.line.now _ _ _ _ after c.in-Some.ensures told.0 told.1 run)

@@ -7,8 +7,8 @@ pub returns : goal.returns
 returns g c =
     λ h.
     let m = g.I.MachInst.meaning c.args.inst.now in
-    append_then c.write-slots.result c.args.out.now c.write-inst.new.out c.write-slots.new.out _ _ c.in-ok-write-inst.ensures
-    (append_then c.write-slots.result c.write-inst.new.out c.write-newline.new.out c.write-slots.new.out _ _ c.in-ok-write-newline.ensures
-    (append_then c.write-slots.result c.write-newline.new.out c.write-clobbers.new.out c.write-slots.new.out _ _
-    (c.in-ok-write-clobbers.ensures ∙ ap (λ t. string_bytes c.write-newline.new.out ++ t) (clobbers_as 0 _ m.operation.clobbers c.clobbers.ensures))
-    (c.write-slots.ensures h)))
+    append_then c.write_slots.result c.args.out.now c.write_inst.new.out c.write_slots.new.out _ _ c.in_ok-write_inst.ensures
+    (append_then c.write_slots.result c.write_inst.new.out c.write_newline.new.out c.write_slots.new.out _ _ c.in_ok-write_newline.ensures
+    (append_then c.write_slots.result c.write_newline.new.out c.write_clobbers.new.out c.write_slots.new.out _ _
+    (c.in_ok-write_clobbers.ensures ∙ ap (λ t. string_bytes c.write_newline.new.out ++ t) (clobbers_as 0 _ m.operation.clobbers c.clobbers.ensures))
+    (c.write_slots.ensures h)))

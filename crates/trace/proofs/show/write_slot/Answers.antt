@@ -5,10 +5,10 @@ use Rattle.trace.specs.Shown.{newline}
 
 pub returns : goal.returns
 returns c =
-    append_then c.write-slot-end.result c.args.out.now c.write-slot-head.new.out c.write-slot-end.new.out _ _
-    c.in-ok-write-slot-head.ensures
-    (append_then c.write-slot-end.result c.write-slot-head.new.out c.write-constraint.new.out c.write-slot-end.new.out _ _
-    c.in-ok-write-constraint.ensures
-    (appends_as c.write-slot-end.result c.write-constraint.new.out c.write-slot-end.new.out _ _
-    (λ j. codes " " ++ (c.kind-text.ensures j ++ (codes " " ++ (c.pos-text.ensures j ++ newline))))
-    c.write-slot-end.ensures))
+    append_then c.write_slot_end.result c.args.out.now c.write_slot_head.new.out c.write_slot_end.new.out _ _
+    c.in_ok-write_slot_head.ensures
+    (append_then c.write_slot_end.result c.write_slot_head.new.out c.write_constraint.new.out c.write_slot_end.new.out _ _
+    c.in_ok-write_constraint.ensures
+    (appends_as c.write_slot_end.result c.write_constraint.new.out c.write_slot_end.new.out _ _
+    (λ j. codes " " ++ (c.kind_text.ensures j ++ (codes " " ++ (c.pos_text.ensures j ++ newline))))
+    c.write_slot_end.ensures))

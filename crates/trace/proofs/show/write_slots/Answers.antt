@@ -6,11 +6,11 @@ use Rattle.trace.proofs.show.write_slots.Goals as goal
 pub loop-k-preserved : goal.loop-k-preserved
 loop-k-preserved g c =
     slots_step c.args.i (codes "slot") (slots_of (g.I.MachInst.meaning c.args.inst.now)) _ c.loop-k.k _ (string_bytes c.loop-k.out) _
-    c.loop-k.invariant c.in-Some.ensures c.in-ok-write-slot.ensures
+    c.loop-k.invariant c.in-Some.ensures c.in_ok-write_slot.ensures
 
-pub returns-in-default : goal.returns-in-default
-returns-in-default g c =
-    λ h. slots_done c.args.i (codes "slot") (slots_of (g.I.MachInst.meaning c.args.inst.now)) _ c.loop-k.k _ c.loop-k.invariant c.in-default.ensures
+pub returns-in_default : goal.returns-in_default
+returns-in_default g c =
+    λ h. slots_done c.args.i (codes "slot") (slots_of (g.I.MachInst.meaning c.args.inst.now)) _ c.loop-k.k _ c.loop-k.invariant c.in_default.ensures
 
 pub returns : goal.returns
 returns g c =

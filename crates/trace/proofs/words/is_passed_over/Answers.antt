@@ -5,7 +5,7 @@ use Rattle.trace.proofs.Cuts.{no_hash}
 use Rattle.trace.proofs.words.is_passed_over.Goals as goal
 use Rattle.std.proofs.lemmas.Bool.Decides.{Decides-eqb}
 
-pub returns-else-starts-with : goal.returns-else-starts-with
-returns-else-starts-with c =
-    let starts = starts_is Decides-eqb c.args.line.now (35 ∷ []) _ c.starts-with.ensures.value in
-    c.is-empty.ensures ∙ ap (λ l. eqb (length l) 0) c.past-spaces.ensures ∙ no_hash c.args.line.now (λ rest e. both_ways _ c.if-starts-with.false (starts.1 rest e))
+pub returns-else-starts_with : goal.returns-else-starts_with
+returns-else-starts_with c =
+    let starts = starts_is Decides-eqb c.args.line.now (35 ∷ []) _ c.starts_with.ensures.value in
+    c.is_empty.ensures ∙ ap (λ l. eqb (length l) 0) c.past_spaces.ensures ∙ no_hash c.args.line.now (λ rest e. both_ways _ c.if-starts_with.false (starts.1 rest e))

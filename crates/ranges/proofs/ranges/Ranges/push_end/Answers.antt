@@ -9,21 +9,21 @@ use Rattle.tables.specs.Tables.{entries, bound, id_of}
 
 pub invariant-of-self : goal.invariant-of-self
 invariant-of-self c =
-    let fits = accepted_end (spans c.args.self.now) c.args.end c.in-ok-check-end.ensures in
+    let fits = accepted_end (spans c.args.self.now) c.args.end c.in_ok-check_end.ensures in
     (subst (λ (es : List ℕ). Rising es) (sym (c.append.ensures.items fits.2)) (rising_push _ _ c.args.self.now.rising fits.1), tt)
 
 pub returns : goal.returns
 returns c =
     let s = spans c.args.self.now in
     let e = c.args.end in
-    let fits = accepted_end s e c.in-ok-check-end.ensures in
+    let fits = accepted_end s e c.in_ok-check_end.ensures in
     let front = fits.0 in
     let t = c.append.new.self in
     let is : ◌≡◌ {A = Spans} (record { ends = entries t; reversed = s.reversed; most = bound t; id = id_of t }) (with_end s e) =
     λ i. record { ends = c.append.ensures.items fits.2 i; reversed = s.reversed; most = c.append.ensures.limit i; id = c.append.ensures.id i }
     in
     record {
-      cases = (c.in-ok-check-end.ensures, is);
+      cases = (c.in_ok-check_end.ensures, is);
       added = (ap count is ∙ length_push s.ends e, ap (λ (u : Spans). range_of u (count s)) is ∙ added_range s e front);
       kept = λ k h. ap (λ (u : Spans). range_of u k) is ∙ kept_range s e k front h;
       id = c.append.ensures.id;

@@ -9,11 +9,11 @@ use Rattle.ranges.specs.Spans.{Spans, spans, count, range_of, last_end, reversed
 use Rattle.tables.specs.Tables.{entries, refitted}
 use Rattle.tables.specs.declared.table.Table.{Table}
 
-pub reverse-ends-requires : goal.reverse-ends-requires
-reverse-ends-requires c =
+pub reverse_ends-requires : goal.reverse_ends-requires
+reverse_ends-requires c =
     λ k.
     let u = points_under (entries c.args.self.now.ends) c.args.self.now.rising k in
-    let e = ap (λ (es : List ℕ). get_or es k 0) c.as-mut-slice.ensures.value in
+    let e = ap (λ (es : List ℕ). get_or es k 0) c.as_mut_slice.ensures.value in
     omega arith
 
 -- what the table holds after its entries were lent and written
@@ -24,8 +24,8 @@ written t n lent ws p q =
 
 pub invariant-of-self : goal.invariant-of-self
 invariant-of-self c =
-    let e = written c.args.self.now.ends c.args.target-len _ _ c.as-mut-slice.ensures.value c.reverse-ends.ensures.after in
-    (subst (λ (es : List ℕ). Rising es) (sym e) (reversed_rises c.args.target-len _ c.args.self.now.rising), tt)
+    let e = written c.args.self.now.ends c.args.target_len _ _ c.as_mut_slice.ensures.value c.reverse_ends.ensures.after in
+    (subst (λ (es : List ℕ). Rising es) (sym e) (reversed_rises c.args.target_len _ c.args.self.now.rising), tt)
 
 -- the ranges with es as their ends, numbered from the other end
 abbrev after_ends : Spans → List ℕ → Spans
@@ -34,10 +34,10 @@ after_ends s es = record { ends = es; reversed = not s.reversed; most = s.most; 
 pub returns : goal.returns
 returns c =
     let s = spans c.args.self.now in
-    let t = c.args.target-len in
+    let t = c.args.target_len in
     let last : t ≡ last_end s = omega arith in
-    let e = written c.args.self.now.ends t _ _ c.as-mut-slice.ensures.value c.reverse-ends.ensures.after in
-    let is = c.reverse-index.ensures.stored ∙ ap (λ (es : List ℕ). after_ends s es) e in
+    let e = written c.args.self.now.ends t _ _ c.as_mut_slice.ensures.value c.reverse_ends.ensures.after in
+    let is = c.reverse_index.ensures.stored ∙ ap (λ (es : List ℕ). after_ends s es) e in
     record {
       cases = (grind (arith, nat_tests), is);
       len = ap count is ∙ reversed_length t s.ends;

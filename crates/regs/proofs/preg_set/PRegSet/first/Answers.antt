@@ -6,7 +6,7 @@ use Rattle.regs.proofs.preg_set.PRegSet.first.Goals as goal
 
 pub returns : goal.returns
 returns c =
-    let e = c.from-word.ensures ∙ ap (lone_word 0) c.ones.ensures in
+    let e = c.from_word.ensures ∙ ap (lone_word 0) c.ones.ensures in
     record {
       members = λ n. ap (λ (s : PRegSet). member s n) e ∙ first_member (min c.args.count 64) n (omega arith);
       words = e;

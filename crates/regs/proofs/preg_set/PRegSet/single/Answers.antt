@@ -9,5 +9,5 @@ pub returns : goal.returns
 returns c =
     λ n.
     let e = one_shl (c.args.reg.0 % 64) 64 (mod_below c.args.reg.0 64 (omega arith)) in
-    ap (λ (s : PRegSet). member s n) (c.from-word.ensures ∙ ap (lone_word (c.args.reg.0 / 64)) e)
+    ap (λ (s : PRegSet). member s n) (c.from_word.ensures ∙ ap (lone_word (c.args.reg.0 / 64)) e)
     ∙ single_member c.args.reg.0 n

@@ -4,7 +4,7 @@ use Rattle.tables.proofs.table.Table.reverse.Goals as goal
 
 pub returns : goal.returns
 returns g c =
-    let was = c.as-mut-slice.ensures.value in
+    let was = c.as_mut_slice.ensures.value in
     record {
       items =
           refitted_is c.args.self.now c.reverse.new.self (c.reverse.ensures.len ∙ ap length was)

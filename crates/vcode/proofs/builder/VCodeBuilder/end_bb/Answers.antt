@@ -9,11 +9,11 @@ pub returns : goal.returns
 returns g c =
     let parts = g.I.MachInst.parts in
     let b = c.args.self.now in
-    let r = c.end-bb.result in
+    let r = c.end_bb.result in
     record {
       answer =
           λ L past h.
           let k = (after parts L past).listing in
-          on_code g.I.MachInst.meaning parts b c.end-bb.new.self close L past h refl (with_closed k) refl r (c.end-bb.ensures.answer L k h.code) c.end-bb.ensures.unchanged;
-      unchanged = refused_map r _ _ (ap (with_code b)) c.end-bb.ensures.unchanged;
+          on_code g.I.MachInst.meaning parts b c.end_bb.new.self close L past h refl (with_closed k) refl r (c.end_bb.ensures.answer L k h.code) c.end_bb.ensures.unchanged;
+      unchanged = refused_map r _ _ (ap (with_code b)) c.end_bb.ensures.unchanged;
     }

@@ -16,7 +16,7 @@ no_alias w = alike (allocated [] w)
 pub returns : goal.returns
 returns g c =
     let L = limits_of c.args.tables in (
-      c.in-default.ensures.0,
+      c.in_default.ensures.0,
       record {
         file = record {
           regs = ap (map part_of) c.clear.ensures.vregs;

@@ -9,18 +9,18 @@ use Rattle.vcode.specs.Book.Call.{push}
 use Rattle.vregs.specs.Files.{count}
 use Rattle.vregs.specs.Insts.{inst_fault}
 
-pub returns-in-err-check-inst : goal.returns-in-err-check-inst
-returns-in-err-check-inst g c =
+pub returns-in_err-check_inst : goal.returns-in_err-check_inst
+returns-in_err-check_inst g c =
     let m = g.I.MachInst.meaning in
     let parts = g.I.MachInst.parts in
     let b = c.args.self.now in
-    let r = c.from-residual.result in
-    let p = err_from_is_err_and r c.from-residual.ensures.1 in
+    let r = c.from_residual.result in
+    let p = err_from_is_err_and r c.from_residual.ensures.1 in
     record {
       answer =
           λ L past h.
           exits m parts b (push (m c.args.inst)) L past h r p.0 _ p.1 p.2
-          (first_fault _ _ _ (ap (λ (rs : List Part). inst_fault (count rs) (m c.args.inst)) (sym h.file.regs) ∙ c.in-err-check-inst.ensures));
+          (first_fault _ _ _ (ap (λ (rs : List Part). inst_fault (count rs) (m c.args.inst)) (sym h.file.regs) ∙ c.in_err-check_inst.ensures));
       unchanged = exit_refused r _ p.0 p.1 refl;
     }
 
@@ -35,7 +35,7 @@ returns g c =
           λ L past h.
           let k = after parts L past in
           on_code m parts b c.push.new.self (push (m c.args.inst)) L past h refl (with_inst k.listing (m c.args.inst)) refl r
-          (outcome_next _ _ r _ (ap (λ (rs : List Part). inst_fault (count rs) (m c.args.inst)) (sym h.file.regs) ∙ c.in-ok-check-inst.ensures.0)
+          (outcome_next _ _ r _ (ap (λ (rs : List Part). inst_fault (count rs) (m c.args.inst)) (sym h.file.regs) ∙ c.in_ok-check_inst.ensures.0)
           (c.push.ensures.answer L k.listing h.code))
           c.push.ensures.unchanged;
       unchanged = refused_map r _ _ (ap (with_code b)) c.push.ensures.unchanged;

@@ -10,13 +10,13 @@ pub returns : goal.returns
 returns g c =
     let parts = g.I.MachInst.parts in
     let b = c.args.self.now in
-    let r = c.set-vreg-alias.result in
-    let same = refused_map r _ _ (ap (with_vregs b)) c.set-vreg-alias.ensures.unchanged in
+    let r = c.set_vreg_alias.result in
+    let same = refused_map r _ _ (ap (with_vregs b)) c.set_vreg_alias.ensures.unchanged in
     record {
       answer =
           λ L past h.
-          answers g.I.MachInst.meaning parts b _ (alias c.args.from.0 c.args.to.0) L past h refl r _ (c.set-vreg-alias.ensures.answer (after parts L past).file h.file)
-          (λ u held. record { file = held; code = h.code; labels = h.labels; output = h.output; entry = h.entry; most_regs = c.set-vreg-alias.ensures.limit ∙ h.most_regs }) same;
+          answers g.I.MachInst.meaning parts b _ (alias c.args.from.0 c.args.to.0) L past h refl r _ (c.set_vreg_alias.ensures.answer (after parts L past).file h.file)
+          (λ u held. record { file = held; code = h.code; labels = h.labels; output = h.output; entry = h.entry; most_regs = c.set_vreg_alias.ensures.limit ∙ h.most_regs }) same;
       unchanged = same;
       rule = λ L past h. root_rule b.vregs (after parts L past).file h.file;
     }

@@ -8,23 +8,23 @@ use Rattle.vcode.proofs.code.Code.add_block_param.Goals as goal
 use Rattle.vcode.specs.Book.{all_params}
 use Rattle.vregs.specs.Entries.{word_of}
 
-pub returns-in-err-check-room : goal.returns-in-err-check-room
-returns-in-err-check-room g c =
-    let p = err_from_is_err_and c.from-residual.result c.from-residual.ensures.1 in
+pub returns-in_err-check_room : goal.returns-in_err-check_room
+returns-in_err-check_room g c =
+    let p = err_from_is_err_and c.from_residual.result c.from_residual.ensures.1 in
     let s = c.args.self.now in
-    let e = c.in-err-check-room.ensures in
+    let e = c.in_err-check_room.ensures in
     record {
       answer =
           λ L k h.
           let n = held_length word_of (entries s.params) (all_params k) h.params in
-          exit_outcome _ c.from-residual.result _ p.0 _ p.1 p.2 (is_full _ _ _ BlockParams _ (omega (arith, h.most_params, e.0)) s.params_id e.1);
-      unchanged = exit_refused c.from-residual.result _ p.0 p.1 refl;
+          exit_outcome _ c.from_residual.result _ p.0 _ p.1 p.2 (is_full _ _ _ BlockParams _ (omega (arith, h.most_params, e.0)) s.params_id e.1);
+      unchanged = exit_refused c.from_residual.result _ p.0 p.1 refl;
     }
 
 pub returns : goal.returns
 returns g c =
     let s = c.args.self.now in
-    let room = c.in-ok-check-room.ensures in
+    let room = c.in_ok-check_room.ensures in
     record {
       answer =
           λ L k h.

@@ -12,7 +12,7 @@ use Rattle.vregs.specs.Entries.{word_of}
 pub returns : goal.returns
 returns g c =
     let s = c.args.self.now in
-    let r = c.push-ends.result in
+    let r = c.push_ends.result in
     record {
       answer =
           λ L k h.
@@ -26,9 +26,9 @@ returns g c =
             most_insts = h.most_insts;
             most_params = h.most_params;
           })
-          (c.push-ends.ensures.answer L k.closed k.unclosed h.ranges
-          (c.num-insts-insts.ensures ∙ sym (held_length g.I.MachInst.meaning (entries s.insts) (all_insts k) h.insts))
+          (c.push_ends.ensures.answer L k.closed k.unclosed h.ranges
+          (c.num_insts-insts.ensures ∙ sym (held_length g.I.MachInst.meaning (entries s.insts) (all_insts k) h.insts))
           (c.len.ensures ∙ sym (held_length block_of (entries s.succs.blocks) _ h.succs.blocks) ∙ length-map (all_succs k) (λ x. x.block))
           (c.len-params.ensures.len ∙ sym (held_length word_of (entries s.params) (all_params k) h.params)));
-      unchanged = refused_map r _ _ (λ e. same_code _ _ refl refl refl e refl) c.push-ends.ensures.unchanged;
+      unchanged = refused_map r _ _ (λ e. same_code _ _ refl refl refl e refl) c.push_ends.ensures.unchanged;
     }

@@ -14,12 +14,12 @@ use Rattle.vcode.specs.declared.code.Code.{Code}
 room_is : {I : Type 0} (m : I → Meaning) (c : Code I) (L : Limits) (k : Listing) → CodeHeld m c L k → inst_room L k ≡ full (length (entries c.insts)) (bound c.insts) (id_of c.insts)
 room_is m c L k h = full_is (held_length m (entries c.insts) (all_insts k) h.insts) (sym h.most_insts) (sym (same_table (id_of c.insts) Insts c.insts_id))
 
-pub returns-in-err-check-inst-room : goal.returns-in-err-check-inst-room
-returns-in-err-check-inst-room g c =
-    let r = c.from-residual.result in
-    let p = err_from_is_err_and r c.from-residual.ensures.1 in
+pub returns-in_err-check_inst_room : goal.returns-in_err-check_inst_room
+returns-in_err-check_inst_room g c =
+    let r = c.from_residual.result in
+    let p = err_from_is_err_and r c.from_residual.ensures.1 in
     record {
-      answer = λ L k h. exit_outcome _ r _ p.0 _ p.1 p.2 (room_is g.I.MachInst.meaning c.args.self.now L k h ∙ c.in-err-check-inst-room.ensures);
+      answer = λ L k h. exit_outcome _ r _ p.0 _ p.1 p.2 (room_is g.I.MachInst.meaning c.args.self.now L k h ∙ c.in_err-check_inst_room.ensures);
       unchanged = exit_refused r _ p.0 p.1 refl;
     }
 
@@ -27,7 +27,7 @@ pub returns : goal.returns
 returns g c =
     let m = g.I.MachInst.meaning in
     let s = c.args.self.now in
-    let room = c.in-ok-check-inst-room.ensures.0 in
+    let room = c.in_ok-check_inst_room.ensures.0 in
     record {
       answer =
           λ L k h. (

@@ -15,12 +15,12 @@ use Rattle.vcode.specs.Held.{label_of}
 due : (limit n : ℕ) (rs : List Label) → (n ≡ 0 → ⊥) → record_fault limit n rs ≡ full (length rs) limit Labels
 due limit n rs h = ap (λ (b : Bool). cond b None (full (length rs) limit Labels)) (ne_eqb n 0 h)
 
-pub returns-in-err-check-room : goal.returns-in-err-check-room
-returns-in-err-check-room c =
-    let r = c.from-residual.result in
-    let p = err_from_is_err_and r c.from-residual.ensures.1 in
+pub returns-in_err-check_room : goal.returns-in_err-check_room
+returns-in_err-check_room c =
+    let r = c.from_residual.result in
+    let p = err_from_is_err_and r c.from_residual.ensures.1 in
     let s = c.args.self.now in
-    let e = c.in-err-check-room.ensures in
+    let e = c.in_err-check_room.ensures in
     record {
       answer =
           λ limit rs h.
@@ -36,12 +36,12 @@ returns c =
     let w = c.args.reg.0 in
     let l = c.args.label.0 in
     let n = c.args.end in
-    let room = c.in-ok-check-room.ensures in
+    let room = c.in_ok-check_room.ensures in
     record {
       answer =
           λ limit rs h.
           let many = held_length label_of (entries s.records) rs h.records in
-          let start : c.last-end-start.result ≡ last_end rs l = c.last-end-start.ensures ∙ ap (λ (xs : List Label). last_end (reverse xs) l) h.records ∙ ap (λ (xs : List Label). last_end xs l) (reverse-reverse rs) in
+          let start : c.last_end-start.result ≡ last_end rs l = c.last_end-start.ensures ∙ ap (λ (xs : List Label). last_end (reverse xs) l) h.records ∙ ap (λ (xs : List Label). last_end xs l) (reverse-reverse rs) in
           let new : List Label = record { word = w; start = last_end rs l; end = n; label = l } ∷ rs in
           let with : with_label rs n w l ≡ new = ap (λ (b : Bool). cond b rs new) (ne_eqb n 0 c.if-end-eq0.false) in (
             due limit n rs c.if-end-eq0.false ∙ has_room (length rs) limit Labels (omega (arith, h.most, room)),

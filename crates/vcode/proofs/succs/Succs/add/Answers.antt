@@ -42,12 +42,12 @@ module _ (s : Succs) (L : Limits) (ss : List Succ) (h : SuccsHeld s L ss) (args 
 passed : (a b c d : ℕ) (t u : TableId) → or_else (full a b t) (unless (leb c d) (Full u)) ≡ None → (a < b) × (c ≤ d)
 passed a b c d t u e = (grind (arith, nat_tests), grind (arith, nat_tests))
 
-pub returns-in-err-check-room : goal.returns-in-err-check-room
-returns-in-err-check-room c =
-    let r = c.from-residual.result in
-    let p = err_from_is_err_and r c.from-residual.ensures.1 in
+pub returns-in_err-check_room : goal.returns-in_err-check_room
+returns-in_err-check_room c =
+    let r = c.from_residual.result in
+    let p = err_from_is_err_and r c.from_residual.ensures.1 in
     record {
-      answer = λ L ss h. exit_outcome _ r _ p.0 _ p.1 p.2 (room_is c.args.self.now L ss h c.args.args.now ∙ c.in-err-check-room.ensures);
+      answer = λ L ss h. exit_outcome _ r _ p.0 _ p.1 p.2 (room_is c.args.self.now L ss h c.args.args.now ∙ c.in_err-check_room.ensures);
       unchanged = exit_refused r _ p.0 p.1 (same_succs _ _ refl refl refl);
     }
 
@@ -55,14 +55,14 @@ pub returns : goal.returns
 returns c =
     let s = c.args.self.now in
     let args = c.args.args.now in
-    let free = c.in-ok-check-room.ensures.0 in
+    let free = c.in_ok-check_room.ensures.0 in
     let fits = passed _ _ _ _ _ _ free in
     record {
       answer =
           λ L ss h.
           let next : Succ = record { block = c.args.block.0; args = map word_of args } in
-          let now : map word_of (entries c.append-all.new.self) ≡ flat_args (next ∷ ss) = ap (map word_of) (c.append-all.ensures.items fits.1) ∙ map-append word_of (entries s.args) args ∙ ap (λ (xs : List ℕ). xs ++ map word_of args) h.args in
-          let end : c.len.result ≡ length (flat_args (next ∷ ss)) = c.len.ensures.len ∙ sym (length-map (entries c.append-all.new.self) word_of) ∙ ap length now in
+          let now : map word_of (entries c.append_all.new.self) ≡ flat_args (next ∷ ss) = ap (map word_of) (c.append_all.ensures.items fits.1) ∙ map-append word_of (entries s.args) args ∙ ap (λ (xs : List ℕ). xs ++ map word_of args) h.args in
+          let end : c.len.result ≡ length (flat_args (next ∷ ss)) = c.len.ensures.len ∙ sym (length-map (entries c.append_all.new.self) word_of) ∙ ap length now in
           let more : length (flat_args (next ∷ ss)) ≡ length (flat_args ss) + length (map word_of args) = length-append (flat_args ss) (map word_of args) in
           let last = args_last ss in
           let blocks = many_blocks s L ss h args in
@@ -76,11 +76,11 @@ returns c =
               blocks = held_push block_of (entries s.blocks) _ (map (λ x. x.block) ss) c.args.block h.blocks (c.append.ensures.items fits.0);
               args = now;
               arg_ranges =
-                  end_pushed (spans s.arg_ranges) c.len.result c.push-end.result _ _ c.push-end.ensures.cases accepted
+                  end_pushed (spans s.arg_ranges) c.len.result c.push_end.result _ _ c.push_end.ensures.cases accepted
                   ∙ ap (λ (t : Spans). with_end t c.len.result) h.arg_ranges
                   ∙ ap (λ (k : ℕ). ranges_to (arg_ends ss ++ k ∷ []) L.succs OfSuccs) end;
               most_succs = c.append.ensures.limit ∙ h.most_succs;
-              most_args = c.append-all.ensures.limit ∙ h.most_args;
+              most_args = c.append_all.ensures.limit ∙ h.most_args;
             },
           );
       unchanged = tt;

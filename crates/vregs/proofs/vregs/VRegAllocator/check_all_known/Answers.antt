@@ -9,19 +9,19 @@ use Rattle.vregs.proofs.vregs.VRegAllocator.check_all_known.Goals as goal
 use Rattle.vregs.specs.Entries.{parts_in, word_of}
 use Rattle.vregs.specs.Files.{count}
 
-pub returns-in-err-check-known : goal.returns-in-err-check-known
-returns-in-err-check-known c =
+pub returns-in_err-check_known : goal.returns-in_err-check_known
+returns-in_err-check_known c =
     let ws = map word_of c.args.regs.now in
-    let p = err_from_is_err_and c.from-residual.result c.from-residual.ensures.1 in
+    let p = err_from_is_err_and c.from_residual.result c.from_residual.ensures.1 in
     let at = nth_map word_of c.args.regs.now c.loop-i.i ∙ ap (option_map word_of) (slice_get-get_or c.args.regs.now c.loop-i.i (record { 0 = 0 }) c.loop-i-test.true) in
-    outcome_err _ c.from-residual.result (λ _. Unit {0}) c.in-err-check-known.field-0.0 (p.1 ∙ ap Err p.2)
-    (scan_found (count (parts_in c.args.self.now)) ws c.loop-i.i c.loop-i.invariant _ at c.in-err-check-known.field-0.0 c.in-err-check-known.ensures)
+    outcome_err _ c.from_residual.result (λ _. Unit {0}) c.in_err-check_known.field-0.0 (p.1 ∙ ap Err p.2)
+    (scan_found (count (parts_in c.args.self.now)) ws c.loop-i.i c.loop-i.invariant _ at c.in_err-check_known.field-0.0 c.in_err-check_known.ensures)
 
 pub loop-i-preserved : goal.loop-i-preserved
 loop-i-preserved c =
     let ws = map word_of c.args.regs.now in
     let at = nth_map word_of c.args.regs.now c.loop-i.i ∙ ap (option_map word_of) (slice_get-get_or c.args.regs.now c.loop-i.i (record { 0 = 0 }) c.loop-i-test.true) in
-    scan_more (count (parts_in c.args.self.now)) ws c.loop-i.i c.loop-i.invariant _ at c.in-ok-check-known.ensures.0
+    scan_more (count (parts_in c.args.self.now)) ws c.loop-i.i c.loop-i.invariant _ at c.in_ok-check_known.ensures.0
 
 pub returns : goal.returns
 returns c =

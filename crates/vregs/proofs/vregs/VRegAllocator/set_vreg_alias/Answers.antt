@@ -11,39 +11,39 @@ use Rattle.vregs.specs.declared.vregs.VReg.{VReg}
 abbrev spare : VReg
 spare = record { alias = None; ty = record { 0 = 0 }; class = Int }
 
-pub bounds-as-slice-i : goal.bounds-as-slice-i
-bounds-as-slice-i c =
-    alias_within c.args.self.now c.args.from.0 c.in-ok-i.i c.as-slice.result.now
-    c.in-ok-i.ensures.0 c.in-ok-i.ensures.1 c.as-slice.ensures
+pub bounds-as_slice-i : goal.bounds-as_slice-i
+bounds-as_slice-i c =
+    alias_within c.args.self.now c.args.from.0 c.in_ok-i.i c.as_slice.result.now
+    c.in_ok-i.ensures.0 c.in_ok-i.ensures.1 c.as_slice.ensures
 
-pub returns-then-is-some : goal.returns-then-is-some
-returns-then-is-some c = record {
+pub returns-then-is_some : goal.returns-then-is_some
+returns-then-is_some c = record {
   answer =
-      already c.args.self.now c.args.from.0 c.args.to.0 c.in-ok-i.i c.resolve-vreg-alias-root.result spare
-      c.in-ok-i.ensures.0 c.in-ok-i.ensures.1 c.in-ok-check-allocated.ensures.0
-      c.resolve-vreg-alias-root.ensures.root (λ e. both_ways _ refl (c.if-eq.ensures.1 e)) c.as-slice.result.now c.as-slice.ensures c.if-is-some.ensures;
+      already c.args.self.now c.args.from.0 c.args.to.0 c.in_ok-i.i c.resolve_vreg_alias-root.result spare
+      c.in_ok-i.ensures.0 c.in_ok-i.ensures.1 c.in_ok-check_allocated.ensures.0
+      c.resolve_vreg_alias-root.ensures.root (λ e. both_ways _ refl (c.if-eq.ensures.1 e)) c.as_slice.result.now c.as_slice.ensures c.if-is_some.ensures;
   unchanged = refl;
   limit = refl;
 }
 
-pub bounds-as-mut-slice-i : goal.bounds-as-mut-slice-i
-bounds-as-mut-slice-i c =
-    alias_within c.args.self.now c.args.from.0 c.in-ok-i.i c.as-mut-slice.result.now
-    c.in-ok-i.ensures.0 c.in-ok-i.ensures.1 c.as-mut-slice.ensures.value
+pub bounds-as_mut_slice-i : goal.bounds-as_mut_slice-i
+bounds-as_mut_slice-i c =
+    alias_within c.args.self.now c.args.from.0 c.in_ok-i.i c.as_mut_slice.result.now
+    c.in_ok-i.ensures.0 c.in_ok-i.ensures.1 c.as_mut_slice.ensures.value
 
 pub returns : goal.returns
 returns c =
-    let ys = c.as-mut-slice.result.now in
-    let v = aliased (get_or ys c.in-ok-i.i spare) c.resolve-vreg-alias-root.result in
-    let ws = set ys c.in-ok-i.i v in
+    let ys = c.as_mut_slice.result.now in
+    let v = aliased (get_or ys c.in_ok-i.i spare) c.resolve_vreg_alias-root.result in
+    let ws = set ys c.in_ok-i.i v in
     record {
       answer =
-          accepted c.args.self.now c.args.from.0 c.args.to.0 c.in-ok-i.i c.resolve-vreg-alias-root.result spare
-          c.in-ok-i.ensures.0 c.in-ok-i.ensures.1 c.in-ok-check-allocated.ensures.0
-          c.resolve-vreg-alias-root.ensures.root (λ e. both_ways _ refl (c.if-eq.ensures.1 e)) c.as-slice.result.now ys
+          accepted c.args.self.now c.args.from.0 c.args.to.0 c.in_ok-i.i c.resolve_vreg_alias-root.result spare
+          c.in_ok-i.ensures.0 c.in_ok-i.ensures.1 c.in_ok-check_allocated.ensures.0
+          c.resolve_vreg_alias-root.ensures.root (λ e. both_ways _ refl (c.if-eq.ensures.1 e)) c.as_slice.result.now ys
           (record { vregs = refitted c.args.self.now.vregs ws })
-          c.as-slice.ensures c.as-mut-slice.ensures.value c.if-is-some.ensures
-          (refitted_is c.args.self.now.vregs ws (length-set ys c.in-ok-i.i v ∙ ap length c.as-mut-slice.ensures.value));
+          c.as_slice.ensures c.as_mut_slice.ensures.value c.if-is_some.ensures
+          (refitted_is c.args.self.now.vregs ws (length-set ys c.in_ok-i.i v ∙ ap length c.as_mut_slice.ensures.value));
       unchanged = tt;
       limit = refl;
     }

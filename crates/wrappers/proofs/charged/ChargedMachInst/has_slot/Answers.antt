@@ -13,4 +13,4 @@ returns-then-k-eq0 g c =
 pub returns-else-k-eq0 : goal.returns-else-k-eq0
 returns-else-k-eq0 g c =
     let m = g.I.MachInst.meaning c.args.self.now.inner in
-    c.has-slot.ensures ∙ sym (push_after m.operation.slots _ c.args.k c.if-k-eq0.false)
+    c.has_slot.ensures ∙ sym (push_after m.operation.slots _ c.args.k c.if-k-eq0.false)

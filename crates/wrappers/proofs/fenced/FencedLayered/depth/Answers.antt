@@ -10,5 +10,5 @@ returns g c =
     let layers = g.I.Layered.layers c.args.self.now.inner in
     let n = length_push layers (fence (member c.args.self.now.fence)) in
     let d = c.depth.ensures.depth in
-    let s = c.saturating-add.ensures in
+    let s = c.saturating_add.ensures in
     record { depth = omega arith; under = under_fence _ _ _ c.depth.ensures.under (member c.args.self.now.fence) }
