@@ -65,7 +65,7 @@ fn write_flags(out: &mut String, trap: u8, call: &str, included: u8, low: u8) ->
 
 // Writes what an instruction is, but for its registers: all of its first line but the end.
 fn write_inst<I: MachInst>(out: &mut String, i: usize, inst: &I) -> fmt::Result
-    ensures { Appends result out.old out.new (inst_text i (meaning inst.now)) }
+    ensures { Appends result out.old out.new (inst_text i (I.meaning inst.now)) }
 {
     write_payload(out, i, inst.payload(), terminator_text(inst.is_term()))?;
     let trap = flag_digit(inst.is_trap());
@@ -167,7 +167,7 @@ fn write_slot(out: &mut String, i: usize, name: &str, k: usize, slot: Operand) -
 
 // Writes a line for each slot of an instruction.
 fn write_slots<I: MachInst>(out: &mut String, i: usize, inst: &I) -> fmt::Result
-    ensures { length (slots_of (meaning inst.now)) < 2 ^ 64 → Appends result out.old out.new (slots_text i (codes "slot") 0 (slots_of (meaning inst.now))) }
+    ensures { length (slots_of (I.meaning inst.now)) < 2 ^ 64 → Appends result out.old out.new (slots_text i (codes "slot") 0 (slots_of (I.meaning inst.now))) }
 {
     for k in 0..usize::MAX {
         let Some(slot) = inst.slot(k) else {
@@ -180,7 +180,7 @@ fn write_slots<I: MachInst>(out: &mut String, i: usize, inst: &I) -> fmt::Result
 
 /// Writes what an instruction means: the lines that answer `show`.
 pub(crate) fn write_meaning<I: MachInst>(out: &mut String, inst: &I) -> fmt::Result
-    ensures { length (slots_of (meaning inst.now)) < 2 ^ 64 → Appends result out.old out.new (shown_text (meaning inst.now)) }
+    ensures { length (slots_of (I.meaning inst.now)) < 2 ^ 64 → Appends result out.old out.new (shown_text (I.meaning inst.now)) }
 {
     write_inst(out, 0, inst)?;
     write_newline(out)?;

@@ -42,7 +42,7 @@ fn answered(done: Result<(), Fault>) -> Answer
 impl<I: MachInst + Drop> VCodeBuilder<I> {
     /// Makes a call.
     pub fn make(&mut self, call: Call<I>) -> Answer
-        ensures answer { Answers meaning parts self.old self.new (meant meaning parts call) (heard result) }
+        ensures answer { Answers I.meaning I.parts self.old self.new (meant I.meaning I.parts call) (heard result) }
         ensures unchanged { Spared (heard result) self.old self.new }
     {
         match call {

@@ -16,7 +16,7 @@ impl VRegAllocator {
     /// Refuses an instruction that is a low-level branch, has more than eight slots, names a word that is not known, or is a
     /// move of a physical register.
     pub fn check_inst<I: MachInst>(&self, inst: &I) -> Result<(), Fault>
-        ensures { Outcome (inst_fault (count (parts_in self.now)) (meaning inst.now)) result (λ _. Unit {0}) }
+        ensures { Outcome (inst_fault (count (parts_in self.now)) (I.meaning inst.now)) result (λ _. Unit {0}) }
     {
         if inst.is_low_level_branch() {
             return Err(Fault::LowLevelBranch);
@@ -30,7 +30,7 @@ impl VRegAllocator {
 
     // Refuses the first slot whose word is not known, of an instruction with at most eight.
     fn check_slots<I: MachInst>(&self, inst: &I) -> Result<(), Fault>
-        ensures { length (slots_of (meaning inst.now)) < 9 → Outcome (first_unknown (count (parts_in self.now)) 0 (slot_words (meaning inst.now))) result (λ _. Unit {0}) }
+        ensures { length (slots_of (I.meaning inst.now)) < 9 → Outcome (first_unknown (count (parts_in self.now)) 0 (slot_words (I.meaning inst.now))) result (λ _. Unit {0}) }
     {
         for k in 0..MAX_SLOTS {
             match inst.slot(k) {
@@ -44,7 +44,7 @@ impl VRegAllocator {
 
 // Refuses a move whose source, or else whose destination, is a physical register.
 fn check_move<I: MachInst>(inst: &I) -> Result<(), Fault>
-    ensures { Outcome (move_fault (meaning inst.now) (meaning inst.now).operation.move) result (λ _. Unit {0}) }
+    ensures { Outcome (move_fault (I.meaning inst.now) (I.meaning inst.now).operation.move) result (λ _. Unit {0}) }
 {
     let Some((dst, src)) = inst.is_move() else {
         return Ok(());
@@ -55,7 +55,7 @@ fn check_move<I: MachInst>(inst: &I) -> Result<(), Fault>
 
 // Refuses slot k of a move where its word is a physical register.
 fn check_virtual<I: MachInst>(inst: &I, k: usize) -> Result<(), Fault>
-    ensures { Outcome (slot_fault (meaning inst.now) k) result (λ _. Unit {0}) }
+    ensures { Outcome (slot_fault (I.meaning inst.now) k) result (λ _. Unit {0}) }
 {
     match inst.slot(k) {
         Some(slot) if slot.reg.is_real() => Err(Fault::PhysicalRegInMove(k)),

@@ -191,7 +191,7 @@ impl VRegAllocator {
 
     /// Allocates the one or two registers that a value of this type needs.
     pub fn alloc<I: MachInst>(&mut self, ty: Type) -> Result<ValueRegs<Reg>, Fault>
-        ensures answer { (f : File) → Filed self.old f → Outcome (alloc_fault parts (limit_of self.old) f ty.0) result (λ v. (map word_of (value_regs v) ≡ new_words (count f.regs) (parts_of (parts ty.0))) × Filed self.new (with_regs f (parts_of (parts ty.0)))) }
+        ensures answer { (f : File) → Filed self.old f → Outcome (alloc_fault I.parts (limit_of self.old) f ty.0) result (λ v. (map word_of (value_regs v) ≡ new_words (count f.regs) (parts_of (I.parts ty.0))) × Filed self.new (with_regs f (parts_of (I.parts ty.0)))) }
         ensures unchanged { OnErr result (self.new ≡ self.old) }
         ensures limit { limit_of self.new ≡ limit_of self.old }
     {

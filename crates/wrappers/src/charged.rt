@@ -17,11 +17,11 @@ pub struct Charged<I> {
 }
 
 impl<I: MachInst> MachInst for Charged<I> {
-    ghost meaning = { λ c. charged_by c.counter.0 (meaning c.inner) };
+    ghost meaning = { λ c. charged_by c.counter.0 (I.meaning c.inner) };
 
-    ghost parts = { I.MachInst.parts };
+    ghost parts = { I.parts };
 
-    ghost moves = { λ c. charged_moves c.counter.0 (meaning c.inner) (I.MachInst.moves c.inner) };
+    ghost moves = { λ c. charged_moves c.counter.0 (I.meaning c.inner) (I.moves c.inner) };
 
     fn rc_for_type(ty: Type) -> Option<(&'static [RegClass], &'static [Type])> {
         I::rc_for_type(ty)
@@ -81,9 +81,9 @@ impl<I: MachInst> MachInst for Charged<I> {
 }
 
 impl<I: Layered> Layered for Charged<I> {
-    ghost bare = { λ c. bare c.inner };
+    ghost bare = { λ c. I.bare c.inner };
 
-    ghost layers = { λ c. layers c.inner ++ charge c.counter.0 ∷ [] };
+    ghost layers = { λ c. I.layers c.inner ++ charge c.counter.0 ∷ [] };
 
     fn depth(&self) -> usize {
         self.inner.depth().saturating_add(1)

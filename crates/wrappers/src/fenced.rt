@@ -18,11 +18,11 @@ pub struct Fenced<I> {
 }
 
 impl<I: MachInst> MachInst for Fenced<I> {
-    ghost meaning = { λ c. fenced_by (member c.fence) (meaning c.inner) };
+    ghost meaning = { λ c. fenced_by (member c.fence) (I.meaning c.inner) };
 
-    ghost parts = { I.MachInst.parts };
+    ghost parts = { I.parts };
 
-    ghost moves = { λ c. I.MachInst.moves c.inner };
+    ghost moves = { λ c. I.moves c.inner };
 
     fn rc_for_type(ty: Type) -> Option<(&'static [RegClass], &'static [Type])> {
         I::rc_for_type(ty)
@@ -74,9 +74,9 @@ impl<I: MachInst> MachInst for Fenced<I> {
 }
 
 impl<I: Layered> Layered for Fenced<I> {
-    ghost bare = { λ c. bare c.inner };
+    ghost bare = { λ c. I.bare c.inner };
 
-    ghost layers = { λ c. layers c.inner ++ fence (member c.fence) ∷ [] };
+    ghost layers = { λ c. I.layers c.inner ++ fence (member c.fence) ∷ [] };
 
     fn depth(&self) -> usize {
         self.inner.depth().saturating_add(1)

@@ -21,7 +21,7 @@ use tables::table::Table;
 
 impl<I: MachInst + Drop> Code<I> {
     pub(crate) fn with_lengths(heap: Global, lengths: &Lengths) -> Result<Code<I>, AllocError>
-        ensures { IfOk result (λ c. CodeHeld meaning c (capacities lengths.now) new_listing) }
+        ensures { IfOk result (λ c. CodeHeld I.meaning c (capacities lengths.now) new_listing) }
     {
         let insts = Table::new(heap, TableId::Insts, lengths.insts)?;
         let params = Table::new(heap, TableId::BlockParams, lengths.block_params)?;
@@ -38,7 +38,7 @@ impl<I: MachInst + Drop> Code<I> {
     }
 
     pub(crate) fn clear(&mut self)
-        ensures { (L : Limits) → CodeLimits self.old L → CodeHeld meaning self.new L new_listing }
+        ensures { (L : Limits) → CodeLimits self.old L → CodeHeld I.meaning self.new L new_listing }
     {
         self.insts.clear();
         self.params.clear();
@@ -62,7 +62,7 @@ impl<I: MachInst + Drop> Code<I> {
     }
 
     pub(crate) fn push(&mut self, inst: I) -> Result<(), Fault>
-        ensures answer { (L : Limits) (k : Listing) → CodeHeld meaning self.old L k → Outcome (inst_room L k) result (λ _. CodeHeld meaning self.new L (with_inst k (meaning inst))) }
+        ensures answer { (L : Limits) (k : Listing) → CodeHeld I.meaning self.old L k → Outcome (inst_room L k) result (λ _. CodeHeld I.meaning self.new L (with_inst k (I.meaning inst))) }
         ensures unchanged { OnErr result (self.new ≡ self.old) }
     {
         self.check_inst_room()?;
@@ -71,14 +71,14 @@ impl<I: MachInst + Drop> Code<I> {
     }
 
     pub(crate) fn add_succ(&mut self, block: BlockIndex, args: &[Reg]) -> Result<(), Fault>
-        ensures answer { (L : Limits) (k : Listing) → CodeHeld meaning self.old L k → Outcome (succ_room L (all_succs k) (map word_of args.now)) result (λ _. CodeHeld meaning self.new L (with_succ k block.0 (map word_of args.now))) }
+        ensures answer { (L : Limits) (k : Listing) → CodeHeld I.meaning self.old L k → Outcome (succ_room L (all_succs k) (map word_of args.now)) result (λ _. CodeHeld I.meaning self.new L (with_succ k block.0 (map word_of args.now))) }
         ensures unchanged { OnErr result (self.new ≡ self.old) }
     {
         self.succs.add(block, args)
     }
 
     pub(crate) fn add_block_param(&mut self, param: Reg) -> Result<(), Fault>
-        ensures answer { (L : Limits) (k : Listing) → CodeHeld meaning self.old L k → Outcome (param_room L k) result (λ _. CodeHeld meaning self.new L (with_param k param.0)) }
+        ensures answer { (L : Limits) (k : Listing) → CodeHeld I.meaning self.old L k → Outcome (param_room L k) result (λ _. CodeHeld I.meaning self.new L (with_param k param.0)) }
         ensures unchanged { OnErr result (self.new ≡ self.old) }
     {
         self.params.check_room()?;
@@ -88,7 +88,7 @@ impl<I: MachInst + Drop> Code<I> {
 
     // Closes what was accepted since the last closing as a block.
     pub(crate) fn end_bb(&mut self) -> Result<(), Fault>
-        ensures answer { (L : Limits) (k : Listing) → CodeHeld meaning self.old L k → Outcome (block_room L k.closed) result (λ _. CodeHeld meaning self.new L (with_closed k)) }
+        ensures answer { (L : Limits) (k : Listing) → CodeHeld I.meaning self.old L k → Outcome (block_room L k.closed) result (λ _. CodeHeld I.meaning self.new L (with_closed k)) }
         ensures unchanged { OnErr result (self.new ≡ self.old) }
     {
         let insts = self.num_insts();

@@ -7,10 +7,10 @@ use Rattle.ranges.specs.Order.{Rising}
 use Rattle.ranges.specs.Spans.{Spans, spans, count, range_of, with_end}
 use Rattle.tables.specs.Tables.{entries, bound, id_of}
 
-pub invariant-of-self : goal.invariant-of-self
-invariant-of-self c =
+pub invariant_of-self : goal.invariant_of-self
+invariant_of-self c =
     let fits = accepted_end (spans c.args.self.now) c.args.end c.in_ok-check_end.ensures in
-    (subst (λ (es : List ℕ). Rising es) (sym (c.append.ensures.items fits.2)) (rising_push _ _ c.args.self.now.rising fits.1), tt)
+    record { rising = subst (λ (es : List ℕ). Rising es) (sym (c.append.ensures.items fits.2)) (rising_push _ _ c.args.self.now.rising fits.1) }
 
 pub returns : goal.returns
 returns c =

@@ -22,10 +22,10 @@ written t n lent ws p q =
     let all : ws ≡ reversed_ends n (entries t) = q ∙ ap (reversed_ends n) p in
     refitted_is t ws (ap length all ∙ reversed_length n (entries t)) ∙ all
 
-pub invariant-of-self : goal.invariant-of-self
-invariant-of-self c =
+pub invariant_of-self : goal.invariant_of-self
+invariant_of-self c =
     let e = written c.args.self.now.ends c.args.target_len _ _ c.as_mut_slice.ensures.value c.reverse_ends.ensures.after in
-    (subst (λ (es : List ℕ). Rising es) (sym e) (reversed_rises c.args.target_len _ c.args.self.now.rising), tt)
+    record { rising = subst (λ (es : List ℕ). Rising es) (sym e) (reversed_rises c.args.target_len _ c.args.self.now.rising) }
 
 -- the ranges with es as their ends, numbered from the other end
 abbrev after_ends : Spans → List ℕ → Spans

@@ -28,7 +28,7 @@ returns g c =
     let w = c.args.self.now.counter.0 in
     c.slot-below.ensures
     ∙ elim c.else-is_none.branch [
-      | else-is_none-via-then-is_none+else-has_slot v ↦ slot_absent w m c.args.k (sym v.if-has-slot.ensures)
+      | else-is_none-via-then-is_none+else-has_slot v ↦ slot_absent w m c.args.k (sym v.if-has_slot.ensures)
       | else-is_none-via-else-is_none v ↦
-          slot_below w m c.args.k (told _ _ _ _ c.slot-below.ensures c.is_none.ensures v.if-is-none.false)
+          slot_below w m c.args.k (told _ _ _ _ c.slot-below.ensures c.is_none.ensures v.if-is_none.false)
     ]
