@@ -10,13 +10,13 @@ use Rattle.vregs.specs.Entries.{parts_in}
 use Rattle.vregs.specs.Files.{count}
 use Rattle.vregs.specs.Insts.{slot_words}
 
-pub returns-in_err-check_known : goal.returns-in_err-check_known
-returns-in_err-check_known g c short =
+pub returns-in_err-check_known-in-Some : goal.returns-in_err-check_known-in-Some
+returns-in_err-check_known-in-Some g c short =
     let m = g.I.MachInst.meaning c.args.inst.now in
     let p = err_from_is_err_and c.from_residual.result c.from_residual.ensures.1 in
     let at = nth_map (λ s. s.word) (slots_of m) c.loop-k.k ∙ ap (option_map (λ s. s.word)) (sym c.slot.ensures ∙ ap (option_map slot_of) c.in-Some.is) in
-    outcome_err _ c.from_residual.result (λ _. Unit {0}) c.in_err-check_known.field-0.0 (p.1 ∙ ap Err p.2)
-    (scan_found (count (parts_in c.args.self.now)) (slot_words m) c.loop-k.k c.loop-k.invariant _ at c.in_err-check_known.field-0.0 c.in_err-check_known.ensures)
+    outcome_err _ c.from_residual.result (λ _. Unit {0}) c.in_err-check_known-in-Some.field-0.0 (p.1 ∙ ap Err p.2)
+    (scan_found (count (parts_in c.args.self.now)) (slot_words m) c.loop-k.k c.loop-k.invariant _ at c.in_err-check_known-in-Some.field-0.0 c.in_err-check_known-in-Some.ensures)
 
 pub returns-in-None : goal.returns-in-None
 returns-in-None g c short =
@@ -28,7 +28,7 @@ pub loop-k-preserved : goal.loop-k-preserved
 loop-k-preserved g c =
     let m = g.I.MachInst.meaning c.args.inst.now in
     let at = nth_map (λ s. s.word) (slots_of m) c.loop-k.k ∙ ap (option_map (λ s. s.word)) (sym c.slot.ensures ∙ ap (option_map slot_of) c.in-Some.is) in
-    scan_more (count (parts_in c.args.self.now)) (slot_words m) c.loop-k.k c.loop-k.invariant _ at c.in_ok-check_known.ensures.0
+    scan_more (count (parts_in c.args.self.now)) (slot_words m) c.loop-k.k c.loop-k.invariant _ at c.in_ok-check_known-in-Some.ensures.0
 
 pub returns : goal.returns
 returns g c short =

@@ -1,7 +1,7 @@
-use Rattle.std.proofs.Common.{length, get_or, set, None, refl, ap, ◌∙◌}
+use Rattle.std.proofs.Common.{length, get_or, set, None, refl, sym, ap, ◌∙◌}
 use Rattle.regs.specs.declared.reg.RegClass.TheVariants.{Int}
 use Rattle.std.proofs.lemmas.List.{length-set}
-use Rattle.std.proofs.lemmas.Bool.{both_ways}
+use Rattle.std.proofs.lemmas.Bool.{eqb-false}
 use Rattle.tables.proofs.Fits.{refitted_is}
 use Rattle.tables.specs.Tables.{refitted}
 use Rattle.vregs.proofs.Filing.{accepted, alias_within, aliased, already}
@@ -21,7 +21,7 @@ returns-then-is_some c = record {
   answer =
       already c.args.self.now c.args.from.0 c.args.to.0 c.in_ok-i.i c.resolve_vreg_alias-root.result spare
       c.in_ok-i.ensures.0 c.in_ok-i.ensures.1 c.in_ok-check_allocated.ensures.0
-      c.resolve_vreg_alias-root.ensures.root (λ e. both_ways _ refl (c.if-eq.ensures.1 e)) c.as_slice.result.now c.as_slice.ensures c.if-is_some.ensures;
+      c.resolve_vreg_alias-root.ensures.root (eqb-false _ _ (sym c.if-eq.ensures)) c.as_slice.result.now c.as_slice.ensures c.if-is_some.ensures;
   unchanged = refl;
   limit = refl;
 }
@@ -40,7 +40,7 @@ returns c =
       answer =
           accepted c.args.self.now c.args.from.0 c.args.to.0 c.in_ok-i.i c.resolve_vreg_alias-root.result spare
           c.in_ok-i.ensures.0 c.in_ok-i.ensures.1 c.in_ok-check_allocated.ensures.0
-          c.resolve_vreg_alias-root.ensures.root (λ e. both_ways _ refl (c.if-eq.ensures.1 e)) c.as_slice.result.now ys
+          c.resolve_vreg_alias-root.ensures.root (eqb-false _ _ (sym c.if-eq.ensures)) c.as_slice.result.now ys
           (record { vregs = refitted c.args.self.now.vregs ws })
           c.as_slice.ensures c.as_mut_slice.ensures.value c.if-is_some.ensures
           (refitted_is c.args.self.now.vregs ws (length-set ys c.in_ok-i.i v ∙ ap length c.as_mut_slice.ensures.value));
