@@ -9,7 +9,7 @@ use crate::reason::Reason;
 use crate::words::{Words, is_word};
 use faults::fault::Fault;
 use ranges::ranges::Ranges;
-use std::fmt;
+use std::alloc::AllocError;
 
 /// A call on a range table.
 #[derive(Clone, Copy)]
@@ -67,14 +67,14 @@ pub(crate) fn read_call(words: &mut Words) -> Result<RangesCall, Reason>
     Ok(call)
 }
 
-fn write_ok(out: &mut String) -> fmt::Result
+fn write_ok(out: &mut String) -> Result<(), AllocError>
     ensures { Appends result out.old out.new ok_text }
 {
     write!(out, "ok\n")
 }
 
 /// Writes a refusal: its number and its place.
-pub(crate) fn write_refused(out: &mut String, fault: Fault) -> fmt::Result
+pub(crate) fn write_refused(out: &mut String, fault: Fault) -> Result<(), AllocError>
     ensures { Appends result out.old out.new (refused_text fault) }
 {
     let number = fault.number();
@@ -82,7 +82,7 @@ pub(crate) fn write_refused(out: &mut String, fault: Fault) -> fmt::Result
     write!(out, "refused {number} {place}\n")
 }
 
-fn write_done(out: &mut String, done: Result<(), Fault>) -> fmt::Result
+fn write_done(out: &mut String, done: Result<(), Fault>) -> Result<(), AllocError>
     ensures { Appends result out.old out.new (done_text done) }
 {
     match done {
@@ -91,7 +91,7 @@ fn write_done(out: &mut String, done: Result<(), Fault>) -> fmt::Result
     }
 }
 
-fn write_range(out: &mut String, found: Result<(u32, u32), Fault>) -> fmt::Result
+fn write_range(out: &mut String, found: Result<(u32, u32), Fault>) -> Result<(), AllocError>
     ensures { Appends result out.old out.new (range_text found) }
 {
     match found {
@@ -100,14 +100,18 @@ fn write_range(out: &mut String, found: Result<(u32, u32), Fault>) -> fmt::Resul
     }
 }
 
-fn write_len(out: &mut String, len: usize) -> fmt::Result
+fn write_len(out: &mut String, len: usize) -> Result<(), AllocError>
     ensures { Appends result out.old out.new (len_text len) }
 {
     write!(out, "len {len}\n")
 }
 
 /// Makes a call, and writes its answer.
-pub(crate) fn answer_call(ranges: &mut Ranges, call: RangesCall, out: &mut String) -> fmt::Result
+pub(crate) fn answer_call(
+    ranges: &mut Ranges,
+    call: RangesCall,
+    out: &mut String,
+) -> Result<(), AllocError>
     ensures after { spans ranges.new ≡ after_call (spans ranges.old) call }
     ensures answer { Appends result out.old out.new (call_text (spans ranges.old) call) }
 {

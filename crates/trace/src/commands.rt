@@ -13,10 +13,9 @@ use crate::stage::Stage;
 use crate::stop::Stop;
 use crate::words::{Words, is_word};
 use ranges::ranges::Ranges;
-use std::alloc::Global;
-use std::fmt;
+use std::alloc::{AllocError, Global};
 
-fn write_new(out: &mut String) -> fmt::Result
+fn write_new(out: &mut String) -> Result<(), AllocError>
     ensures { Appends result out.old out.new new_text }
 {
     write!(out, "new\n")

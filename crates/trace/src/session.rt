@@ -10,7 +10,7 @@ use crate::reason::Reason;
 use crate::stage::Stage;
 use crate::stop::Stop;
 use crate::words::{Words, is_passed_over};
-use std::alloc::Global;
+use std::alloc::{AllocError, Global};
 use std::fmt;
 
 // A script that is being answered.
@@ -21,13 +21,13 @@ struct Session {
     stage: Stage,
 }
 
-fn write_error(out: &mut String, line: u64) -> fmt::Result
+fn write_error(out: &mut String, line: u64) -> Result<(), AllocError>
     ensures { Appends result out.old out.new (error_text line) }
 {
     write!(out, "error {line}\n")
 }
 
-fn write_reason(reasons: &mut String, line: u64, reason: Reason) -> fmt::Result {
+fn write_reason(reasons: &mut String, line: u64, reason: Reason) -> Result<(), AllocError> {
     let text = reason.text();
     write!(reasons, "line {line}: {text}\n")
 }
@@ -62,7 +62,8 @@ impl Session {
             Err(Stop::Memory) => Err(fmt::Error),
             Err(Stop::Line(reason)) => {
                 write_error(out, self.line)?;
-                write_reason(reasons, self.line, reason)
+                write_reason(reasons, self.line, reason)?;
+                Ok(())
             }
         }
     }

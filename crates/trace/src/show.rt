@@ -10,7 +10,7 @@ use machinst::inst::MachInst;
 use machinst::operand::{Operand, OperandConstraint, OperandKind, OperandPos};
 use regs::preg_set::PRegSet;
 use regs::reg::PReg;
-use std::fmt;
+use std::alloc::AllocError;
 
 fn terminator_text(t: MachTerminator) -> &'static str
     ensures { result.now ≡ terminator_name (terminator_number t) }
@@ -39,7 +39,7 @@ fn flag_digit(b: bool) -> u8
     if b { 1 } else { 0 }
 }
 
-fn write_move(out: &mut String, pair: Option<(usize, usize)>) -> fmt::Result
+fn write_move(out: &mut String, pair: Option<(usize, usize)>) -> Result<(), AllocError>
     ensures { Appends result out.old out.new (move_text pair) }
 {
     match pair {
@@ -48,13 +48,19 @@ fn write_move(out: &mut String, pair: Option<(usize, usize)>) -> fmt::Result
     }
 }
 
-fn write_payload(out: &mut String, i: usize, payload: u64, term: &str) -> fmt::Result
+fn write_payload(out: &mut String, i: usize, payload: u64, term: &str) -> Result<(), AllocError>
     ensures { Appends result out.old out.new (payload_text i payload term.now) }
 {
     write!(out, "inst {i} payload {payload} term {term}")
 }
 
-fn write_flags(out: &mut String, trap: u8, call: &str, included: u8, low: u8) -> fmt::Result
+fn write_flags(
+    out: &mut String,
+    trap: u8,
+    call: &str,
+    included: u8,
+    low: u8,
+) -> Result<(), AllocError>
     ensures { Appends result out.old out.new (flags_text trap call.now included low) }
 {
     write!(
@@ -64,7 +70,7 @@ fn write_flags(out: &mut String, trap: u8, call: &str, included: u8, low: u8) ->
 }
 
 // Writes what an instruction is, but for its registers: all of its first line but the end.
-fn write_inst<I: MachInst>(out: &mut String, i: usize, inst: &I) -> fmt::Result
+fn write_inst<I: MachInst>(out: &mut String, i: usize, inst: &I) -> Result<(), AllocError>
     ensures { Appends result out.old out.new (inst_text i (I.meaning inst.now)) }
 {
     write_payload(out, i, inst.payload(), terminator_text(inst.is_term()))?;
@@ -76,13 +82,13 @@ fn write_inst<I: MachInst>(out: &mut String, i: usize, inst: &I) -> fmt::Result
     write_move(out, inst.is_move())
 }
 
-fn write_number(out: &mut String, n: u8) -> fmt::Result
+fn write_number(out: &mut String, n: u8) -> Result<(), AllocError>
     ensures { Appends result out.old out.new (codes " " ++ decimal n) }
 {
     write!(out, " {n}")
 }
 
-fn write_members(out: &mut String, set: PRegSet) -> fmt::Result
+fn write_members(out: &mut String, set: PRegSet) -> Result<(), AllocError>
     ensures { Appends result out.old out.new (members_text (member set) 192) }
 {
     for n in 0..192u8 {
@@ -93,20 +99,20 @@ fn write_members(out: &mut String, set: PRegSet) -> fmt::Result
     Ok(())
 }
 
-fn write_clobbers_head(out: &mut String, i: usize) -> fmt::Result
+fn write_clobbers_head(out: &mut String, i: usize) -> Result<(), AllocError>
     ensures { Appends result out.old out.new (codes "inst " ++ (decimal i ++ codes " clobbers")) }
 {
     write!(out, "inst {i} clobbers")
 }
 
-fn write_newline(out: &mut String) -> fmt::Result
+fn write_newline(out: &mut String) -> Result<(), AllocError>
     ensures { Appends result out.old out.new newline }
 {
     write!(out, "\n")
 }
 
 // Writes the line of the registers that an instruction clobbers.
-fn write_clobbers(out: &mut String, i: usize, set: PRegSet) -> fmt::Result
+fn write_clobbers(out: &mut String, i: usize, set: PRegSet) -> Result<(), AllocError>
     ensures { Appends result out.old out.new (clobbers_text i (member set)) }
 {
     write_clobbers_head(out, i)?;
@@ -114,7 +120,7 @@ fn write_clobbers(out: &mut String, i: usize, set: PRegSet) -> fmt::Result
     write_newline(out)
 }
 
-fn write_constraint(out: &mut String, constraint: OperandConstraint) -> fmt::Result
+fn write_constraint(out: &mut String, constraint: OperandConstraint) -> Result<(), AllocError>
     ensures { Appends result out.old out.new (constraint_text (constraint_case constraint)) }
 {
     match constraint {
@@ -144,20 +150,32 @@ fn pos_text(pos: OperandPos) -> &'static str
     }
 }
 
-fn write_slot_head(out: &mut String, i: usize, name: &str, k: usize, word: u32) -> fmt::Result
+fn write_slot_head(
+    out: &mut String,
+    i: usize,
+    name: &str,
+    k: usize,
+    word: u32,
+) -> Result<(), AllocError>
     ensures { Appends result out.old out.new (codes "inst " ++ (decimal i ++ (codes " " ++ (name.now ++ (codes " " ++ (decimal k ++ (codes " " ++ (decimal word ++ codes " ")))))))) }
 {
     write!(out, "inst {i} {name} {k} {word} ")
 }
 
-fn write_slot_end(out: &mut String, kind: &str, pos: &str) -> fmt::Result
+fn write_slot_end(out: &mut String, kind: &str, pos: &str) -> Result<(), AllocError>
     ensures { Appends result out.old out.new (codes " " ++ (kind.now ++ (codes " " ++ (pos.now ++ newline)))) }
 {
     write!(out, " {kind} {pos}\n")
 }
 
 // Writes the line of an instruction's slot k, under the name that is given.
-fn write_slot(out: &mut String, i: usize, name: &str, k: usize, slot: Operand) -> fmt::Result
+fn write_slot(
+    out: &mut String,
+    i: usize,
+    name: &str,
+    k: usize,
+    slot: Operand,
+) -> Result<(), AllocError>
     ensures { Appends result out.old out.new (slot_text i name.now k (slot_of slot)) }
 {
     write_slot_head(out, i, name, k, slot.reg.0)?;
@@ -166,7 +184,7 @@ fn write_slot(out: &mut String, i: usize, name: &str, k: usize, slot: Operand) -
 }
 
 // Writes a line for each slot of an instruction.
-fn write_slots<I: MachInst>(out: &mut String, i: usize, inst: &I) -> fmt::Result
+fn write_slots<I: MachInst>(out: &mut String, i: usize, inst: &I) -> Result<(), AllocError>
     ensures { length (slots_of (I.meaning inst.now)) < 2 ^ 64 → Appends result out.old out.new (slots_text i (codes "slot") 0 (slots_of (I.meaning inst.now))) }
 {
     for k in 0..usize::MAX {
@@ -179,7 +197,7 @@ fn write_slots<I: MachInst>(out: &mut String, i: usize, inst: &I) -> fmt::Result
 }
 
 /// Writes what an instruction means: the lines that answer `show`.
-pub(crate) fn write_meaning<I: MachInst>(out: &mut String, inst: &I) -> fmt::Result
+pub(crate) fn write_meaning<I: MachInst>(out: &mut String, inst: &I) -> Result<(), AllocError>
     ensures { length (slots_of (I.meaning inst.now)) < 2 ^ 64 → Appends result out.old out.new (shown_text (I.meaning inst.now)) }
 {
     write_inst(out, 0, inst)?;

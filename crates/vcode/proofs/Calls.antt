@@ -1,5 +1,5 @@
 -- A call on a builder with a past.
-use Rattle.std.proofs.Common.{◌≡◌, ℕ, List, ◌∷◌, map, Some, None, Ok, Err, Option, Result, sym, refl, ap, ◌∙◌, subst}
+use Rattle.std.proofs.Common.{◌≡◌, ℕ, List, ◌∷◌, map, Some, None, Ok, Err, Option, Result, OnErr, sym, refl, ap, ◌∙◌, subst}
 use Rattle.faults.specs.declared.fault.Fault.{Fault}
 use Rattle.machinst.specs.Meaning.{Meaning}
 use Rattle.machinst.specs.Parts.{Parts}
@@ -50,7 +50,7 @@ module _ {I : Type 0} (meaning : I → Meaning) (parts : ℕ → Option Parts) w
 
   -- a call that is answered `done` or refused, from its outcome
   module _ (b now : VCodeBuilder I) (c : Call) (L : Limits) (past : List Call) (h : Reached meaning parts b L past) (plain : granted parts L (after parts L past) c ≡ done) where
-    pub answers : (r : Result (Unit {0}) Fault) (P : Unit {0} → Type 0) → Outcome (fault parts L (after parts L past) c) r P → ((u : Unit {0}) → P u → Holds meaning parts now L (accept parts L (after parts L past) c)) → Rattle.std.specs.Vec.refused r (λ _. now ≡ b) → Answered meaning parts now c (done_by r) L past
+    pub answers : (r : Result (Unit {0}) Fault) (P : Unit {0} → Type 0) → Outcome (fault parts L (after parts L past) c) r P → ((u : Unit {0}) → P u → Holds meaning parts now L (accept parts L (after parts L past) c)) → OnErr r (now ≡ b) → Answered meaning parts now c (done_by r) L past
     answers (Ok u) P o held same = subst (λ (a : Answer). Answered meaning parts now c a L past) plain (grant now c L past o.0 (held u o.1))
     answers (Err f) P o held same = subst (λ (x : VCodeBuilder I). Answered meaning parts x c (refused f) L past) (sym same) (refuse b c L past h f o)
 
@@ -60,14 +60,14 @@ module _ {I : Type 0} (meaning : I → Meaning) (parts : ℕ → Option Parts) w
       subst (λ (s : Result (Unit {0}) Fault). Answered meaning parts b c (done_by s) L past) (sym e) (refuse b c L past h y (o ∙ ap Some (sym q)))
 
   -- an allocation, from its outcome
-  pub allocates : (b now : VCodeBuilder I) (ty : ℕ) (L : Limits) (past : List Call) → Reached meaning parts b L past → (r : Result (ValueRegs Reg) Fault) (F : Type 0) → Outcome (fault parts L (after parts L past) (alloc ty)) r (λ v. (map word_of (value_regs v) ≡ new_words (count (after parts L past).file.regs) (parts_of (parts ty))) × F) → (F → Holds meaning parts now L (accept parts L (after parts L past) (alloc ty))) → Rattle.std.specs.Vec.refused r (λ _. now ≡ b) → Answered meaning parts now (alloc ty) (words_by r) L past
+  pub allocates : (b now : VCodeBuilder I) (ty : ℕ) (L : Limits) (past : List Call) → Reached meaning parts b L past → (r : Result (ValueRegs Reg) Fault) (F : Type 0) → Outcome (fault parts L (after parts L past) (alloc ty)) r (λ v. (map word_of (value_regs v) ≡ new_words (count (after parts L past).file.regs) (parts_of (parts ty))) × F) → (F → Holds meaning parts now L (accept parts L (after parts L past) (alloc ty))) → OnErr r (now ≡ b) → Answered meaning parts now (alloc ty) (words_by r) L past
   allocates b now ty L past h (Ok v) F o held same =
       subst (λ (ws : List ℕ). Answered meaning parts now (alloc ty) (words ws) L past) (sym o.1.0) (grant now (alloc ty) L past o.0 (held o.1.1))
   allocates b now ty L past h (Err f) F o held same =
       subst (λ (x : VCodeBuilder I). Answered meaning parts x (alloc ty) (refused f) L past) (sym same) (refuse b (alloc ty) L past h f o)
 
   -- a call that changes the code alone, from the code's outcome
-  pub on_code : (b : VCodeBuilder I) (now : Code I) (c : Call) (L : Limits) (past : List Call) → Reached meaning parts b L past → granted parts L (after parts L past) c ≡ done → (k : Listing) → accept parts L (after parts L past) c ≡ with_listing (after parts L past) k → (r : Result (Unit {0}) Fault) → Outcome (fault parts L (after parts L past) c) r (λ _. CodeHeld meaning now L k) → Rattle.std.specs.Vec.refused r (λ _. now ≡ b.code) → Answered meaning parts (with_code b now) c (done_by r) L past
+  pub on_code : (b : VCodeBuilder I) (now : Code I) (c : Call) (L : Limits) (past : List Call) → Reached meaning parts b L past → granted parts L (after parts L past) c ≡ done → (k : Listing) → accept parts L (after parts L past) c ≡ with_listing (after parts L past) k → (r : Result (Unit {0}) Fault) → Outcome (fault parts L (after parts L past) c) r (λ _. CodeHeld meaning now L k) → OnErr r (now ≡ b.code) → Answered meaning parts (with_code b now) c (done_by r) L past
   on_code b now c L past h plain k is r o same =
       answers b (with_code b now) c L past h plain r (λ _. CodeHeld meaning now L k) o
       (λ u held. subst (λ (x : Book). Holds meaning parts (with_code b now) L x) (sym is)

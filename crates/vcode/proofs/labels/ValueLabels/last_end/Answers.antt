@@ -7,7 +7,7 @@ use Rattle.vcode.specs.declared.labels.LabelRecord.{LabelRecord}
 
 pub loop-record-init : goal.loop-record-init
 loop-record-init c =
-    let start = ap (λ x. iter_rest (rev_source x)) c.into_iter-record_iterator.ensures.into_iter-gives ∙ ap iter_rest c.rev-record-items.ensures.source ∙ c.iter.ensures.rest ∙ c.as_slice.ensures in
+    let start = ap (λ x. iter_rest (rev_source x)) c.into_iter-record-iterator.ensures.into_iter_gives ∙ ap iter_rest c.rev-record-items.ensures.source ∙ c.iter.ensures.rest ∙ c.as_slice.ensures in
     ap (λ (xs : List LabelRecord). found_in xs c.args.label.0) (sym start)
 
 pub returns-then-record-label : goal.returns-then-record-label

@@ -8,4 +8,4 @@ use Rattle.vcode.proofs.labels.ValueLabels.last_end.Given as goal
 -- the records that were passed are of other labels
 abbrev pub invariant-loop-record : goal.invariant-loop-record
 invariant-loop-record l =
-    found_in (entries l.self.records) l.label.0 ≡ found_in (iter_rest (rev_source l.record_iterator)) l.label.0
+    found_in (entries l.self.records) l.label.0 ≡ found_in (iter_rest (rev_source l.record-iterator)) l.label.0
