@@ -11,12 +11,12 @@ cut c =
 
 pub returns-then-is_empty : goal.returns-then-is_empty
 returns-then-is_empty c =
-    no_word c.args.self.now.rest.now _ _ c.past_spaces-line.ensures (cut (goal.at.returns-then-is_empty c).After-bytes-before)
-    (omega (arith, true-eqb _ 0 c.if-is_empty.ensures, c.split_at.ensures.front-len))
+    no_word c.args.self.now.rest.now _ _ c.past_spaces-line.ensures (cut (goal.at.returns-then-is_empty c).After-bytes_before)
+    (omega (arith, true-eqb _ 0 c.if-is_empty.ensures, c.split_at.ensures.front_len))
 
 pub returns : goal.returns
 returns c =
-    a_word c.args.self.now.rest.now _ _ c.past_spaces-line.ensures (cut (goal.at.returns c).After-bytes-before) _ c.split_at.result.1.now
-    (omega (arith, false-eqb _ 0 c.if-is_empty.ensures, c.split_at.ensures.front-len))
+    a_word c.args.self.now.rest.now _ _ c.past_spaces-line.ensures (cut (goal.at.returns c).After-bytes_before) _ c.split_at.result.1.now
+    (omega (arith, false-eqb _ 0 c.if-is_empty.ensures, c.split_at.ensures.front_len))
     c.split_at.ensures.front
     c.split_at.ensures.back
