@@ -1,6 +1,6 @@
 -- What holds of an instruction unless it is said otherwise: a Use is early, a Def is late, a slot may be in any register
 -- of its class, there is no terminator, trap, call, clobber or move, and the clobbers are included.
-use Rattle.std.specs.Prelude.{ℕ, Bool, true, false, List, [], ◌∷◌, Some, None, Option}
+use Rattle.std.specs.Prelude.{ℕ, Bool, true, false, List, None}
 use Rattle.machinst.specs.Cases.{Case, call_number, constraint_case, kind_number, pos_number, terminator_number}
 use Rattle.machinst.specs.Meaning.{Control, Meaning, Slot}
 use Rattle.machinst.specs.declared.control.CallType.{CallType}

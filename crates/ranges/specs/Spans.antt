@@ -1,5 +1,5 @@
 -- The rules of a list of ranges.
-use Rattle.std.specs.Prelude.{ℕ, ◌-◌, Bool, true, false, cond, not, List, [], ◌∷◌, ◌++◌, map, reverse, length, drop, Some, None, Option, ◌==◌, nat_lt, slice_index}
+use Rattle.std.specs.Prelude.{ℕ, ◌-◌, Bool, false, cond, not, List, [], ◌∷◌, ◌++◌, map, reverse, length, drop, Some, None, Option, ◌==◌, nat_lt, slice_index}
 use Rattle.tables.specs.Tables.{entries, bound, id_of}
 use Rattle.faults.specs.declared.fault.Fault.{Fault}
 use Rattle.faults.specs.declared.fault.Fault.TheVariants.{Full, Mismatch}

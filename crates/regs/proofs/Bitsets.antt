@@ -1,7 +1,6 @@
 -- Bits of a word, and the members of a set of registers.
 use lib.Bits.{bit_and, bit_or, shifted_half, shifted_even}
-use Rattle.std.proofs.Common.{◌≡◌, ℕ, zero, suc, ◌+◌, ◌-◌, ◌*◌, ◌/◌, ◌%◌, ◌^◌, ◌<◌, ◌≤◌, min, Bool, true, false, cond, ◌&&◌, ◌||◌, eqb, ltb, sym, refl, ap, ◌∙◌, div-one, arith, pow_pos, shr-shr}
-use lib.Pow.{suc_ones}
+use Rattle.std.proofs.Common.{◌≡◌, ℕ, zero, suc, ◌-◌, ◌/◌, ◌%◌, ◌^◌, ◌<◌, ◌≤◌, Bool, true, false, cond, ◌&&◌, ◌||◌, eqb, ltb, sym, refl, ap, ◌∙◌, div-one, arith, pow_pos, shr-shr}
 use native.Mathlib.Nat.{div-eq_of_lt}
 use Rattle.std.proofs.lemmas.Nat.{or_shr, or_mod, mod_below, and_mask}
 use Rattle.std.proofs.lemmas.Bool.Decides.{nat_tests}

@@ -1,5 +1,5 @@
 -- Sets of physical registers, by the membership of each number.
-use Rattle.std.specs.Prelude.{ℕ, zero, suc, ◌-◌, ◌/◌, ◌%◌, ◌^◌, min, Bool, cond, ◌==◌}
+use Rattle.std.specs.Prelude.{ℕ, zero, suc, ◌-◌, ◌/◌, ◌%◌, ◌^◌, Bool, cond, ◌==◌}
 use Rattle.regs.specs.declared.preg_set.PRegSet.{PRegSet}
 
 -- word w of a set; there are three

@@ -1,5 +1,5 @@
 -- What each instruction of set P means, and the registers that hold its types.
-use Rattle.std.specs.Prelude.{ℕ, ◌*◌, true, false, cond, List, [], ◌∷◌, Some, None, Option, ◌==◌, nat_lt}
+use Rattle.std.specs.Prelude.{ℕ, ◌*◌, true, false, cond, [], ◌∷◌, Some, None, Option, ◌==◌, nat_lt}
 use Rattle.std.proofs.Common.{lit<}
 use Rattle.machinst.specs.Cases.{call_number, terminator_number}
 use Rattle.machinst.specs.Meaning.{Control, Meaning, Move_within}

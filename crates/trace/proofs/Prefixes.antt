@@ -1,8 +1,7 @@
 -- A list of wrappers that is read word by word.
-use Rattle.std.proofs.Common.{◌≡◌, ℕ, Bool, true, false, cond, List, [], ◌∷◌, ◌++◌, Ok, Err, Result, sym, refl, ap, ◌∙◌, append_assoc}
+use Rattle.std.proofs.Common.{◌≡◌, ℕ, Bool, true, cond, List, [], ◌∷◌, ◌++◌, Ok, Err, Result, sym, refl, ap, ◌∙◌, append_assoc}
 use Rattle.trace.specs.Heads.{in_front, wrapper_named, wrappers_of}
 use Rattle.trace.specs.declared.head.Wrapper.{Wrapper}
-use Rattle.std.proofs.lemmas.List.{append-nil}
 use Rattle.trace.specs.declared.reason.Reason.{Reason}
 
 -- what is read, and then the rest

@@ -1,11 +1,7 @@
 -- The text of an instruction: its first line, its clobbers and its slots.
-use Rattle.std.specs.Prelude.{◌≡◌, ℕ, zero, suc, ◌+◌, Bool, cond, List, [], ◌∷◌, ◌++◌, Some, None, string_bytes, codes, decimal, Option, Result, String, OnOk}
-use Rattle.machinst.specs.Cases.{Case, call_number, constraint_case, kind_number, pos_number, terminator_number}
+use Rattle.std.specs.Prelude.{◌≡◌, ℕ, zero, suc, Bool, cond, List, [], ◌∷◌, ◌++◌, Some, None, string_bytes, codes, decimal, Option, Result, String, OnOk}
+use Rattle.machinst.specs.Cases.{Case}
 use Rattle.machinst.specs.Meaning.{Meaning, Slot, slots_of}
-use Rattle.machinst.specs.declared.control.CallType.{CallType}
-use Rattle.machinst.specs.declared.control.CallType.TheVariants as call
-use Rattle.machinst.specs.declared.control.MachTerminator.{MachTerminator}
-use Rattle.machinst.specs.declared.control.MachTerminator.TheVariants as term
 use Rattle.std.specs.declared.alloc.Global.{Global}
 
 -- what a call that writes at the end of a text leaves, unless memory ran out

@@ -1,5 +1,5 @@
 -- What `show` answers: the text of the instruction that its words write.
-use Rattle.std.specs.Prelude.{◌≡◌, ℕ, ◌^◌, ◌<◌, Bool, cond, List, [], ◌∷◌, ◌++◌, length, Ok, Err, string_bytes, codes, Result, String}
+use Rattle.std.specs.Prelude.{◌≡◌, ℕ, ◌^◌, ◌<◌, List, [], ◌∷◌, ◌++◌, length, Ok, Err, string_bytes, codes, Result, String}
 use Rattle.machinst.specs.Meaning.{Meaning, slots_of}
 use Rattle.regs.specs.Sets.{member}
 use Rattle.trace.specs.declared.head.Set.{Set}

@@ -1,5 +1,5 @@
 -- What a line of a script is answered, by what came before it.
-use Rattle.std.specs.Prelude.{◌≡◌, ℕ, Bool, true, false, cond, List, [], ◌∷◌, ◌++◌, length, Some, None, Ok, Err, string_bytes, codes, Option, Result, String}
+use Rattle.std.specs.Prelude.{◌≡◌, ℕ, cond, List, ◌++◌, Some, None, Ok, Err, string_bytes, codes, Option, Result, String}
 use Rattle.faults.specs.TableIds.{capacity_of}
 use Rattle.faults.specs.declared.fault.Fault.{Fault}
 use Rattle.faults.specs.declared.table_id.TableId.TheVariants.{Ranges as OfRanges}
@@ -8,9 +8,7 @@ use Rattle.ranges.specs.Spans.{Spans, no_spans, spans}
 use Rattle.trace.specs.Alone.{after_call, call_text, reads_call, refused_text}
 use Rattle.trace.specs.Heads.{new_fault, reads_lengths, reads_set, wrappers_of, wrapping_list, wrapping_of}
 use Rattle.trace.specs.Shows.{Writes, bare_reader, layered, value}
-use Rattle.trace.specs.declared.head.Lengths.{Lengths}
 use Rattle.trace.specs.declared.head.Set.{Set}
-use Rattle.trace.specs.declared.head.Wrapper.{Wrapper}
 use Rattle.trace.specs.declared.head.Wrapping.{Wrapping}
 use Rattle.trace.specs.declared.head.Wrapping.TheVariants.{Bare}
 use Rattle.trace.specs.declared.stage.Stage.{Stage}
@@ -23,7 +21,6 @@ use Rattle.trace.specs.Readers.{Read, reads_end, reads_number, reads_word, then}
 use Rattle.trace.specs.declared.reason.Reason.{Reason}
 use Rattle.trace.specs.declared.reason.Reason.TheVariants.{NotHere, UnsupportedWrappers}
 use Rattle.trace.specs.Shown.{newline}
-use Rattle.machinst.specs.Layers.{Layer}
 use Rattle.wrappers.specs.Wrapped.{wrapped}
 
 -- Where a script stands: at its start, in the head of a function, past that head, at the calls of a range table used

@@ -1,5 +1,5 @@
 -- A call on a builder with a past.
-use Rattle.std.proofs.Common.{◌≡◌, ℕ, List, ◌∷◌, map, Some, None, Ok, Err, Option, Result, OnErr, sym, refl, ap, ◌∙◌, subst}
+use Rattle.std.proofs.Common.{◌≡◌, ℕ, List, map, Some, None, Ok, Err, Option, Result, OnErr, sym, ap, ◌∙◌, subst}
 use Rattle.faults.specs.declared.fault.Fault.{Fault}
 use Rattle.machinst.specs.Meaning.{Meaning}
 use Rattle.machinst.specs.Parts.{Parts}

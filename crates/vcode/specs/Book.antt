@@ -1,6 +1,6 @@
 -- The book: a plain machine that takes the calls on a builder one after another. It knows the calls' arguments, the
 -- instructions' meanings, the registers of each type and the tables' lengths, and nothing else.
-use Rattle.std.specs.Prelude.{ℕ, ◌+◌, cond, List, [], ◌∷◌, ◌++◌, map, length, Some, None, Option, ◌==◌, nat_le, nat_lt}
+use Rattle.std.specs.Prelude.{ℕ, ◌+◌, cond, List, [], ◌∷◌, ◌++◌, length, Some, None, Option, ◌==◌, nat_le, nat_lt}
 use Rattle.faults.specs.declared.fault.Fault.{Fault}
 use Rattle.faults.specs.declared.fault.Fault.TheVariants.{Full, UnknownReg}
 use Rattle.faults.specs.declared.table_id.TableId.{TableId}

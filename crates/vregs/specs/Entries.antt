@@ -1,12 +1,12 @@
 -- The entries of the register table, and the file that they hold.
-use Rattle.std.specs.Prelude.{◌≡◌, ℕ, ◌+◌, ◌-◌, cond, List, [], map, length, Some, None, Option, slice_index_or}
+use Rattle.std.specs.Prelude.{◌≡◌, ℕ, ◌-◌, cond, List, map, None, Option, slice_index_or}
 use Rattle.machinst.specs.Parts.{Part}
 use Rattle.regs.specs.Classes.{class_number}
 use Rattle.regs.specs.Words.{index_of}
 use Rattle.regs.specs.declared.reg.Reg.{Reg}
 use Rattle.std.specs.Option.{option_map}
 use Rattle.tables.specs.Tables.{bound, entries}
-use Rattle.vregs.specs.Files.{File, Valid, allocated, count}
+use Rattle.vregs.specs.Files.{File, Valid, allocated}
 use Rattle.vregs.specs.Roots.{alias_of, root}
 use Rattle.vregs.specs.declared.vregs.VReg.{VReg}
 use Rattle.vregs.specs.declared.vregs.VRegAllocator.{VRegAllocator}

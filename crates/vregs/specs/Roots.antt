@@ -1,5 +1,5 @@
 -- Aliases and roots of register words.
-use Rattle.std.specs.Prelude.{◌≡◌, ℕ, cond, List, [], ◌∷◌, Some, None, Option, MatchOption, ◌==◌}
+use Rattle.std.specs.Prelude.{ℕ, cond, List, [], ◌∷◌, Some, None, Option, ◌==◌}
 
 -- The root of a word after these aliases (from, to), the last accepted first: an alias leads the words whose root was its
 -- `from` on to the root of its `to`.

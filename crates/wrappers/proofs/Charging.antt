@@ -1,5 +1,5 @@
 -- The slots of a charged instruction, and a word replaced in it.
-use Rattle.std.proofs.Common.{◌≡◌, ℕ, ◌+◌, ◌<◌, ◌≤◌, Bool, true, false, [], ◌∷◌, ◌++◌, length, is_some, Some, sym, ap, ◌∙◌, arith, length-append}
+use Rattle.std.proofs.Common.{◌≡◌, ℕ, ◌+◌, ◌<◌, true, false, [], ◌∷◌, length, is_some, Some, sym, ap, ◌∙◌, arith, length-append}
 use Rattle.machinst.proofs.Slots.{nth_in, nth_out, nth_past, nth_push_in, nth_push_last, reworded_push_in, reworded_push_last, reworded_past}
 use Rattle.machinst.specs.Meaning.{Meaning, slot_at, slots_of, with_slots, with_word}
 use Rattle.machinst.specs.Usual.{early_use, in_reg}

@@ -1,5 +1,5 @@
 -- One more wrapper around an instruction under a list of them.
-use Rattle.std.proofs.Common.{◌≡◌, ℕ, Bool, true, false, ◌||◌, List, [], ◌∷◌, ◌++◌, length, sym, refl, ap, ◌∙◌, subst, append_assoc}
+use Rattle.std.proofs.Common.{◌≡◌, ℕ, Bool, true, false, ◌||◌, List, [], ◌∷◌, ◌++◌, sym, refl, ap, ◌∙◌, subst, append_assoc}
 use Rattle.machinst.specs.Meaning.{Meaning, Slot, slots_of}
 use Rattle.machinst.specs.Usual.{early_use, in_reg}
 use Rattle.std.proofs.lemmas.List.{append-nil}

@@ -1,4 +1,4 @@
-use Rattle.std.proofs.Common.{◌≡◌, Ok, sym, ap, ◌∙◌}
+use Rattle.std.proofs.Common.{Ok, sym, ap, ◌∙◌}
 use Rattle.ranges.specs.Spans.{Spans, spans}
 use Rattle.trace.proofs.Settling.{read_as}
 use Rattle.trace.proofs.commands.alone_command.Goals as goal

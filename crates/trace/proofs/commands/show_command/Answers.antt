@@ -1,4 +1,4 @@
-use Rattle.std.proofs.Common.{◌≡◌, ℕ, List, Ok, Result, sym, ap, ◌∙◌}
+use Rattle.std.proofs.Common.{List, Ok, Result, sym, ap, ◌∙◌}
 use Rattle.machinst.specs.Meaning.{Meaning}
 use Rattle.trace.proofs.commands.show_command.Goals as goal
 use Rattle.trace.specs.Heads.{wrapping_list}

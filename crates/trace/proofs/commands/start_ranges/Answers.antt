@@ -1,4 +1,4 @@
-use Rattle.std.proofs.Common.{◌≡◌, Ok, sym, ap, ◌∙◌}
+use Rattle.std.proofs.Common.{Ok, sym, ap, ◌∙◌}
 use Rattle.ranges.specs.Spans.{Spans}
 use Rattle.trace.proofs.Settling.{read_as}
 use Rattle.trace.proofs.commands.start_ranges.Goals as goal

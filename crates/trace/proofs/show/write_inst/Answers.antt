@@ -1,4 +1,4 @@
-use Rattle.std.proofs.Common.{◌≡◌, ℕ, List, ◌++◌, string_bytes, Option, ap, ◌∙◌, subst}
+use Rattle.std.proofs.Common.{ℕ, ◌++◌, string_bytes, Option, ap, ◌∙◌, subst}
 use Rattle.trace.proofs.Texts.{append_then}
 use Rattle.trace.proofs.show.write_inst.Goals as goal
 use Rattle.trace.specs.Shown.{Appends, call_name, flag, flags_text, move_text, payload_text, terminator_name}

@@ -1,5 +1,4 @@
-use Rattle.std.proofs.Common.{ℕ, ◌++◌, string_bytes, ap, ◌∙◌}
-use Rattle.machinst.specs.Meaning.{slots_of}
+use Rattle.std.proofs.Common.{◌++◌, string_bytes, ap, ◌∙◌}
 use Rattle.trace.proofs.Texts.{append_then, clobbers_as}
 use Rattle.trace.proofs.show.write_meaning.Goals as goal
 

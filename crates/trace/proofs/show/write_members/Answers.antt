@@ -1,4 +1,4 @@
-use Rattle.std.proofs.Common.{◌≡◌, ℕ, Bool, true, false, cond, List, [], ◌++◌, string_bytes, codes, decimal, sym, refl, ap, ◌∙◌, subst, arith}
+use Rattle.std.proofs.Common.{◌≡◌, ℕ, Bool, cond, [], ◌++◌, string_bytes, codes, decimal, sym, ap, ◌∙◌, arith}
 use Rattle.regs.specs.Sets.{member}
 use Rattle.std.proofs.lemmas.List.{append-nil}
 use Rattle.trace.proofs.Texts.{members_none, members_step}

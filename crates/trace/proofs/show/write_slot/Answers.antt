@@ -1,4 +1,4 @@
-use Rattle.std.proofs.Common.{◌≡◌, ℕ, List, ◌++◌, codes, subst}
+use Rattle.std.proofs.Common.{◌++◌, codes}
 use Rattle.trace.proofs.Texts.{append_then, appends_as}
 use Rattle.trace.proofs.show.write_slot.Goals as goal
 use Rattle.trace.specs.Shown.{newline}

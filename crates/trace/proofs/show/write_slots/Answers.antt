@@ -1,4 +1,4 @@
-use Rattle.std.proofs.Common.{◌++◌, string_bytes, codes, arith}
+use Rattle.std.proofs.Common.{string_bytes, codes, arith}
 use Rattle.machinst.specs.Meaning.{slots_of}
 use Rattle.trace.proofs.Texts.{slots_all, slots_done, slots_step}
 use Rattle.trace.proofs.show.write_slots.Goals as goal

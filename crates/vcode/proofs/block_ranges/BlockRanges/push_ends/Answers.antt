@@ -1,4 +1,4 @@
-use Rattle.std.proofs.Common.{◌≡◌, sym, refl, ◌∙◌}
+use Rattle.std.proofs.Common.{sym, refl, ◌∙◌}
 use Rattle.ranges.specs.Spans.{spans}
 use Rattle.std.proofs.lemmas.Result.{err_from_is_err_and}
 use Rattle.vcode.proofs.Ends.{closed_is, room_is}

@@ -5,7 +5,7 @@ use Rattle.vcode.proofs.Outcomes.{refused_map}
 use Rattle.vcode.proofs.builder.VCodeBuilder.alloc.Goals as goal
 use Rattle.vcode.specs.Book.{after}
 use Rattle.vregs.specs.Entries.{Filed, word_of}
-use Rattle.vregs.specs.Files.{File, Outcome, alloc_fault, count, new_words, parts_of, with_regs}
+use Rattle.vregs.specs.Files.{Outcome, alloc_fault, count, new_words, parts_of, with_regs}
 
 pub returns : goal.returns
 returns g c =

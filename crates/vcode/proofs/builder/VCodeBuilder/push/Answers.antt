@@ -1,4 +1,4 @@
-use Rattle.std.proofs.Common.{◌≡◌, List, map, sym, refl, ap, ◌∙◌, subst}
+use Rattle.std.proofs.Common.{List, sym, refl, ap, ◌∙◌}
 use Rattle.machinst.specs.Parts.{Part}
 use Rattle.std.proofs.lemmas.Result.{err_from_is_err_and}
 use Rattle.vcode.proofs.Calls.{exits, on_code, with_code}

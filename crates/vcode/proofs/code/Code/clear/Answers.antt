@@ -1,6 +1,6 @@
 use Rattle.std.proofs.Common.{◌≡◌, map, sym, ap, ◌∙◌}
 use Rattle.faults.specs.declared.table_id.TableId.TheVariants.{Insts}
-use Rattle.ranges.specs.Spans.{Spans, no_spans, spans}
+use Rattle.ranges.specs.Spans.{no_spans, spans}
 use Rattle.vcode.proofs.Outcomes.{same_table}
 use Rattle.vcode.proofs.code.Code.clear.Goals as goal
 use Rattle.vregs.specs.Entries.{word_of}
