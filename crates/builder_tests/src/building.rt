@@ -3,8 +3,8 @@ use machinst::inst::MachInst;
 use regs::reg::{Reg, Type};
 use set_p::P;
 use vcode::builder::VCodeBuilder;
+use vcode::function_tables::Tables;
 use vcode::lengths::Lengths;
-use vcode::tables::Tables;
 use wrappers::charged::Charged;
 
 type Thrice<I> = Charged<Charged<Charged<I>>>;

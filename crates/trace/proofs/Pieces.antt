@@ -2,7 +2,7 @@
 use Rattle.std.proofs.Common.{◌≡◌, ℕ, ◌<◌, true, false, eqb, List, [], ◌∷◌, length, sym, refl, ap, ◌∙◌, ⊎_elim, arith, eqb-true}
 use borrow.Author.Tests.{eqb-false}
 use Rattle.std.proofs.lemmas.Bool.{cases_Bool}
-use Rattle.std.specs.List.{AllByRecursion as All}
+use Rattle.std.specs.List.{AllByRecursion}
 use Rattle.trace.specs.Lines.{Split, Without, begun, joined_by, pieces}
 
 module _ (sep : ℕ) where
@@ -33,12 +33,12 @@ module _ (sep : ℕ) where
       (λ (e : eqb b sep ≡ false). simp e (joined_begun b (pieces sep bs) (some_piece bs) ∙ ap (λ l. b ∷ l) (pieces_join bs)))
       (cases_Bool (eqb b sep))
 
-  begun_without : (b : ℕ) (ps : List (List ℕ)) → (b ≡ sep → ⊥) → All (Without sep) ps → All (Without sep) (begun b ps)
+  begun_without : (b : ℕ) (ps : List (List ℕ)) → (b ≡ sep → ⊥) → AllByRecursion (Without sep) ps → AllByRecursion (Without sep) (begun b ps)
   begun_without b [] ne h = ((ne, tt), tt)
   begun_without b (p ∷ ps) ne h = ((ne, h.0), h.1)
 
   -- no piece has a space
-  pub pieces_without : (line : List ℕ) → All (Without sep) (pieces sep line)
+  pub pieces_without : (line : List ℕ) → AllByRecursion (Without sep) (pieces sep line)
   pieces_without [] = (tt, tt)
   pieces_without (b ∷ bs) =
       ⊎_elim

@@ -1,6 +1,6 @@
 -- The words of a line. Assumes nothing.
 use Rattle.std.specs.Prelude.{◌≡◌, ℕ, Bool, true, cond, ◌&&◌, ◌||◌, List, [], ◌∷◌, ◌++◌, ◌==◌, ◌≢◌}
-use Rattle.std.specs.List.{AllByRecursion as All}
+use Rattle.std.specs.List.{AllByRecursion}
 
 -- puts a byte before the first of some pieces
 abbrev pub begun : ℕ → List (List ℕ) → List (List ℕ)
@@ -19,11 +19,11 @@ joined_by sep (p ∷ []) = p
 joined_by sep (p ∷ q ∷ ps) = p ++ sep ∷ joined_by sep (q ∷ ps)
 
 abbrev pub Without : ℕ → List ℕ → Type 0
-Without sep bs = All (λ b. b ≢ sep) bs
+Without sep bs = AllByRecursion (λ b. b ≢ sep) bs
 
 -- the pieces make up the text, and none has the separator
 abbrev pub Split : ℕ → List ℕ → Type 0
-Split sep text = (joined_by sep (pieces sep text) ≡ text) × All (Without sep) (pieces sep text)
+Split sep text = (joined_by sep (pieces sep text) ≡ text) × AllByRecursion (Without sep) (pieces sep text)
 
 -- the lines of a text: its pieces at the newlines
 abbrev pub lines_of : List ℕ → List (List ℕ)

@@ -13,7 +13,7 @@ use Rattle.vcode.specs.declared.index.BlockIndex.{BlockIndex}
 use Rattle.vcode.specs.declared.labels.LabelRecord.{LabelRecord}
 use Rattle.vcode.specs.declared.labels.ValueLabels.{ValueLabels}
 use Rattle.vcode.specs.declared.succs.Succs.{Succs}
-use Rattle.vcode.specs.declared.tables.OutputTables.{OutputTables}
+use Rattle.vcode.specs.declared.function_tables.OutputTables.{OutputTables}
 use Rattle.vregs.specs.Entries.{word_of}
 
 abbrev pub block_of : BlockIndex → ℕ

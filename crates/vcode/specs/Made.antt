@@ -7,8 +7,8 @@ use Rattle.tables.specs.Tables.{bound}
 use Rattle.vcode.specs.Book.{Limits}
 use Rattle.vcode.specs.declared.code.Code.{Code}
 use Rattle.vcode.specs.declared.lengths.Lengths.{Lengths}
-use Rattle.vcode.specs.declared.tables.OutputTables.{OutputTables}
-use Rattle.vcode.specs.declared.tables.Tables.{Tables}
+use Rattle.vcode.specs.declared.function_tables.OutputTables.{OutputTables}
+use Rattle.vcode.specs.declared.function_tables.Tables.{Tables}
 use Rattle.vregs.specs.Entries.{limit_of}
 
 -- the capacities that these lengths give

@@ -16,7 +16,7 @@ use Rattle.vcode.specs.declared.call.Answer.{Answer as Said}
 use Rattle.vcode.specs.declared.call.Answer.TheVariants as say
 use Rattle.vcode.specs.declared.call.Call.{Call as Made}
 use Rattle.vcode.specs.declared.call.Call.TheVariants as make
-use Rattle.vcode.specs.declared.tables.Tables.{Tables}
+use Rattle.vcode.specs.declared.function_tables.Tables.{Tables}
 use Rattle.vregs.specs.Entries.{Filed, limit_of, word_of}
 
 -- what a call without words was answered

@@ -7,9 +7,9 @@ ghost use Rattle.vregs.specs.Entries.{word_of};
 ghost use Rattle.vregs.specs.Files.{RootRule};
 
 use crate::code::Code;
+use crate::function_tables::{OutputTables, Tables};
 use crate::index::{BlockIndex, ValueLabel};
 use crate::labels::ValueLabels;
-use crate::tables::{OutputTables, Tables};
 use faults::fault::Fault;
 use machinst::inst::MachInst;
 use regs::reg::{Reg, Type};
