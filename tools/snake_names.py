@@ -1,11 +1,11 @@
 #!/usr/bin/env python3
-"""Spells this repository's own definitions and lemmas in snake case, in crates/.
+"""Spells this repository's own definitions and lemmas in snake case, and its facts in camel case, in crates/.
 
 usage: python3 tools/snake_names.py          at the top of the repository, once, after the kit's port.py
 
 A name is changed where a file of specs/ or proofs/ declares it with a dash. The names that Rattle makes (of goals, invariants and
-measures, and what stands behind `c.`, `w.`, `l.` or `goal.`) stay, and so do the must-fail edits. A name that would then be another one's
-gets the ending given in TAKEN.
+measures, and what stands behind `c.`, `w.`, `l.` or `goal.`) stay, and so do the must-fail edits. The spelling
+of a fact is given in FACTS.
 """
 import os
 import re
@@ -14,7 +14,7 @@ WORD = r"[^\s(){}\[\],;:.«»\"`]+"
 DECLARES = re.compile(r"^\s*(?:(?:abbrev|unfoldable|pub|data|record|ruleset|infix[lr]?|module|mutual)\s+)*(" + WORD + r")\s*(?:\{[^}]*\}\s*|\([^)]*\)\s*)*:")
 GOAL = re.compile(r"^(?:abbrev\s+|pub\s+)*(" + WORD + r") : goal\.")
 MADE = re.compile(r"(?<![\w.)-])(?:c|w|l|goal)(?:\." + WORD + r")+")
-TAKEN = {}
+FACTS = {"Move-within": "MoveWithin"}
 
 
 def files(root, endings):
@@ -56,7 +56,7 @@ def respelled(text, names):
 
 
 def main():
-    names = {n: TAKEN.get(n, n.replace("-", "_")) for n in own_names(".")}
+    names = {n: FACTS.get(n, n.replace("-", "_")) for n in own_names(".")}
     for path in files(".", (".antt", ".rt")):
         old = read(path)
         new = respelled(old, names)

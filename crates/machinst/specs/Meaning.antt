@@ -71,6 +71,6 @@ abbrev pub with_word : Meaning → ℕ → ℕ → Meaning
 with_word m k w = with_slots m (reworded_at (slots_of m) k w)
 
 -- both slots of a move exist
-abbrev pub Move_within : Meaning → Type 0
-Move_within m =
+abbrev pub MoveWithin : Meaning → Type 0
+MoveWithin m =
     IfSome m.operation.move (λ p. (p.0 < length (slots_of m)) × (p.1 < length (slots_of m)))

@@ -1,6 +1,6 @@
 ghost use Rattle.std.specs.Prelude.{◌≡◌, ℕ, map, is_some, Option};
 ghost use Rattle.machinst.specs.Cases.{call_number, terminator_number};
-ghost use Rattle.machinst.specs.Meaning.{Meaning, Move_within, slot_at, slot_of, with_word};
+ghost use Rattle.machinst.specs.Meaning.{Meaning, MoveWithin, slot_at, slot_of, with_word};
 ghost use Rattle.machinst.specs.Parts.{Parts, part_lists};
 ghost use Rattle.regs.specs.Classes.{class_number};
 ghost use Rattle.regs.specs.Sets.{member};
@@ -20,7 +20,7 @@ pub trait MachInst {
     ghost parts: { ℕ → Option Parts };
 
     // The two slots of a move exist.
-    ghost moves: { (x : Self) → Move_within (meaning x) };
+    ghost moves: { (x : Self) → MoveWithin (meaning x) };
 
     /// The classes of the one or two registers that hold a value of this type, and the type of each part.
     fn rc_for_type(ty: Type) -> Option<(&'static [RegClass], &'static [Type])>

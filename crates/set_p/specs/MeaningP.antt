@@ -2,7 +2,7 @@
 use Rattle.std.specs.Prelude.{ℕ, ◌*◌, true, false, cond, [], ◌∷◌, Some, None, Option, ◌==◌, nat_lt}
 use Rattle.std.proofs.Common.{lit<}
 use Rattle.machinst.specs.Cases.{call_number, terminator_number}
-use Rattle.machinst.specs.Meaning.{Control, Meaning, Move_within}
+use Rattle.machinst.specs.Meaning.{Control, Meaning, MoveWithin}
 use Rattle.machinst.specs.Parts.{Part, Parts, one, two}
 use Rattle.machinst.specs.Usual.{early_use, ending, fixed, in_reg, late_def, nothing_clobbered, plain, plain_control}
 use Rattle.machinst.specs.declared.control.CallType.{CallType}
@@ -90,7 +90,7 @@ parts_p n =
     (cond (n == 5) (Some (one (int_part 5))) None)))
 
 -- both slots of a move exist
-pub moves_p : (x : P) → Move_within (meaning_p x)
+pub moves_p : (x : P) → MoveWithin (meaning_p x)
 moves_p (Imm d v) = tt
 moves_p (Add a b d) = tt
 moves_p (Move s d) = (lit< tt, lit< tt)

@@ -2,7 +2,7 @@
 use Rattle.std.specs.Prelude.{ℕ, zero, suc, ◌+◌, ◌*◌, Bool, true, false, cond, List, [], ◌∷◌, Some, None, Option, ◌==◌, slice_index_or}
 use Rattle.std.proofs.Common.{lit<}
 use Rattle.machinst.specs.Cases.{call_number, constraint_case, kind_number, pos_number, terminator_number}
-use Rattle.machinst.specs.Meaning.{Meaning, Move_within, Slot}
+use Rattle.machinst.specs.Meaning.{Meaning, MoveWithin, Slot}
 use Rattle.machinst.specs.Parts.{Part, Parts, one, two}
 use Rattle.machinst.specs.declared.control.CallType.{CallType}
 use Rattle.machinst.specs.declared.control.MachTerminator.{MachTerminator}
@@ -116,7 +116,7 @@ abbrev pub parts_q : ℕ → Option Parts
 parts_q n = cond (n == 5) (Some (one (int_part 5))) (cond (n == 1) (Some (two (int_part 5) (int_part 5))) None)
 
 module _ (q : Q) where
-  moves_row : (n : ℕ) → Move_within (meaning_row (slice_index_or rows n no_row) q)
+  moves_row : (n : ℕ) → MoveWithin (meaning_row (slice_index_or rows n no_row) q)
   moves_row zero = tt
   moves_row (suc zero) = tt
   moves_row (suc (suc zero)) = (lit< tt, lit< tt)
@@ -128,5 +128,5 @@ module _ (q : Q) where
   moves_row (suc (suc (suc (suc (suc (suc (suc (suc n)))))))) = tt
 
 -- both slots of a move exist
-pub moves_q : (q : Q) → Move_within (meaning_q q)
+pub moves_q : (q : Q) → MoveWithin (meaning_q q)
 moves_q q = moves_row q q.opcode

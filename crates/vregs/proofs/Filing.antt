@@ -69,7 +69,7 @@ module _ (a b : VRegAllocator) (f : File) (from to : ℕ) (d : VReg) (r : Reg) w
       → allocated f.regs from ≡ true → allocated f.regs to ≡ true → alias_of f.aliases from ≡ None → (root f.aliases to ≡ from → ⊥)
       → r.0 ≡ root f.aliases to → vregs_of b ≡ set (vregs_of a) (place from) (aliased (get_or (vregs_of a) (place from) d) r)
       → Filed b (with_alias f from to)
-  filed_alias h at_from at_to none apart is-root put = record {
+  filed_alias h at_from at_to none apart is_root put = record {
     regs = parts ∙ h.regs;
     alias = λ w. ap (λ rs. cond (allocated rs w) (entry_alias (vregs_of b) (place w)) None) (parts ∙ h.regs) ∙ here w;
     valid = (at_from, at_to, none, apart, h.valid);
@@ -93,7 +93,7 @@ module _ (a b : VRegAllocator) (f : File) (from to : ℕ) (d : VReg) (r : Reg) w
           (λ e. cond-true (allocated f.regs w) (entry_alias (vregs_of b) (place w)) None (ap (allocated f.regs) e ∙ at_from)
           ∙ ap (λ v. entry_alias (vregs_of b) (place v)) e
           ∙ entries_set (place from) ∙ get_or-set_same (map own_alias (vregs_of a)) (place from) (Some r.0) None within
-          ∙ ap Some is-root ∙ sym (alias_hit (from, to) f.aliases w e))
+          ∙ ap Some is_root ∙ sym (alias_hit (from, to) f.aliases w e))
           (λ e. ap (λ rs. cond (allocated rs w) (entry_alias (vregs_of b) (place w)) None) (sym h.regs)
           ∙ other w e (allocated (map part_of (vregs_of a)) w) refl ∙ h.alias w ∙ sym (alias_miss (from, to) f.aliases w e))
           (cases_eq w from)
@@ -119,13 +119,13 @@ no_alias (Some m) e = absurd (both_ways true e refl)
 
 -- an alias of allocated words that makes no cycle
 module _ (a : VRegAllocator) (from to i : ℕ) (r : Reg) (d : VReg)
-    (from_told : unless (allocated (parts_in a) from) (UnknownReg 0) ≡ None) (i_is : i ≡ place from) (to-told : unless (allocated (parts_in a) to) (UnknownReg 1) ≡ None)
+    (from_told : unless (allocated (parts_in a) from) (UnknownReg 0) ≡ None) (i_is : i ≡ place from) (to_told : unless (allocated (parts_in a) to) (UnknownReg 1) ≡ None)
     (rooted : Rooted a to r.0) (apart : r.0 ≡ from → ⊥) where
   at_from : allocated (parts_in a) from ≡ true
   at_from = unless_none (allocated (parts_in a) from) (UnknownReg 0) from_told
 
   at_to : allocated (parts_in a) to ≡ true
-  at_to = unless_none (allocated (parts_in a) to) (UnknownReg 1) to-told
+  at_to = unless_none (allocated (parts_in a) to) (UnknownReg 1) to_told
 
   module _ (xs : List VReg) (e : xs ≡ vregs_of a) (t : Bool) (told : t ≡ is_some (get_or xs i d).alias) (f : File) (h : Filed a f) where
     stands : is_some (alias_of f.aliases from) ≡ t

@@ -26,13 +26,13 @@ pub unless_none : (b : Bool) (f : Fault) → unless b f ≡ None → b ≡ true
 unless_none true f h = refl
 unless_none false f h = none_some h
 
-module _ (n : ℕ) (m : Meaning) (no-branch : m.control.low_level_branch ≡ false) where
+module _ (n : ℕ) (m : Meaning) (no_branch : m.control.low_level_branch ≡ false) where
   abbrev after_slots : Option Fault
   after_slots = or_else (first_unknown n 0 (slot_words m)) (move_fault m m.operation.move)
 
   slots_tested : (b : Bool) → is_some (slice_get (slots_of m) 8) ≡ b → inst_fault n m ≡ or_else (unless (not b) TooManySlots) after_slots
   slots_tested b e =
-      ap (λ a. or_else (unless (not a) LowLevelBranch) (or_else (unless (not (ltb 8 (length (slots_of m)))) TooManySlots) after_slots)) no-branch
+      ap (λ a. or_else (unless (not a) LowLevelBranch) (or_else (unless (not (ltb 8 (length (slots_of m)))) TooManySlots) after_slots)) no_branch
       ∙ ap (λ a. or_else (unless (not a) TooManySlots) after_slots) (sym (nth_test (slots_of m) 8) ∙ e)
 
   pub too_many : is_some (slice_get (slots_of m) 8) ≡ true → inst_fault n m ≡ Some TooManySlots

@@ -2,7 +2,7 @@
 use Rattle.std.specs.Prelude.{ℕ, ◌+◌, ◌<◌, Bool, ◌||◌, List, [], ◌∷◌, ◌++◌, length, IfSome, Some, None, Option}
 use Rattle.std.proofs.Common.{length-append, arith}
 use Rattle.machinst.specs.Layers.{Layer, charge, fence}
-use Rattle.machinst.specs.Meaning.{Meaning, Move_within, slots_of, with_slots}
+use Rattle.machinst.specs.Meaning.{Meaning, MoveWithin, slots_of, with_slots}
 use Rattle.machinst.specs.Usual.{early_use, in_reg}
 
 -- one Use of the counter after the slots below
@@ -32,5 +32,5 @@ within_longer None n k h = tt
 within_longer (Some p) n k h = (omega arith, omega arith)
 
 -- a move's slots still exist under one more
-pub charged_moves : (w : ℕ) (m : Meaning) → Move_within m → Move_within (charged_by w m)
+pub charged_moves : (w : ℕ) (m : Meaning) → MoveWithin m → MoveWithin (charged_by w m)
 charged_moves w m h = rw length-append (within_longer m.operation.move (length (slots_of m)) 1 h)

@@ -35,8 +35,8 @@ module _ (s : Succs) (L : Limits) (ss : List Succ) (h : SuccsHeld s L ss) (args 
       let given = length-map args word_of in
       let flat = many_args in
       let most_args = sym h.most_args in
-      let args-id = sym (same_table (id_of s.args) BranchArgs s.args_id) in
-      λ i. or_else (full (blocks i) (most i) (id i)) (unless (leb (flat i + given i) (most_args i)) (Full (args-id i)))
+      let args_id = sym (same_table (id_of s.args) BranchArgs s.args_id) in
+      λ i. or_else (full (blocks i) (most i) (id i)) (unless (leb (flat i + given i) (most_args i)) (Full (args_id i)))
 
 -- what there is room for
 passed : (a b c d : ℕ) (t u : TableId) → or_else (full a b t) (unless (leb c d) (Full u)) ≡ None → (a < b) × (c ≤ d)
