@@ -50,7 +50,7 @@ module _ {I : Type 0} (meaning : I → Meaning) (parts : ℕ → Option Parts) w
     pub entry : b.entry.0 ≡ k.entry
     pub most_regs : limit_of b.vregs ≡ L.regs
 
-  -- these calls, the last one first, made on a new builder in tables of these capacities, are all that happened to b
+  -- b holds what these calls, the last one first, leave on a new builder in tables of these capacities
   abbrev pub Reached : VCodeBuilder I → Limits → List Call → Type 0
   Reached b L past = Holds b L (after parts L past)
 
