@@ -1,20 +1,17 @@
 use faults::fault::Fault;
+use faults::lengths::Lengths;
 use machinst::inst::MachInst;
 use regs::reg::{Reg, Type};
 use set_p::P;
 use vcode::builder::VCodeBuilder;
 use vcode::function_tables::Tables;
-use vcode::lengths::Lengths;
 use wrappers::charged::Charged;
 
 type Thrice<I> = Charged<Charged<Charged<I>>>;
 
-// The number and the place of a refusal, and (0, 0) where there is none.
-fn refusal<X: Drop>(answer: Result<X, Fault>) -> (usize, usize) {
-    match answer {
-        Ok(_) => (0, 0),
-        Err(fault) => (fault.number(), fault.place()),
-    }
+// The number and the place of a refusal.
+fn refusal<X: Drop>(answer: Result<X, Fault>) -> Option<(usize, usize)> {
+    answer.err().map(|fault| (fault.number(), fault.place()))
 }
 
 fn tables<I: MachInst + Drop>(
@@ -42,10 +39,7 @@ fn builder<I: MachInst + Drop>(
     registers: usize,
     others: usize,
 ) -> Option<VCodeBuilder<I>> {
-    match VCodeBuilder::new(tables(rt, registers, others)?) {
-        Ok(builder) => Some(builder),
-        Err(_) => None,
-    }
+    VCodeBuilder::new(tables(rt, registers, others)?).ok()
 }
 
 fn charged_thrice<I>(counter: Reg, inner: I) -> Thrice<I> {
@@ -68,7 +62,7 @@ pub(crate) fn low_level_branch_of_nine_slots(rt: &HostRuntime) -> bool {
         counter,
         charged_thrice(counter, charged_thrice(counter, P::Jump)),
     );
-    refusal(builder.push(branch)) == (7, 0) && refusal(builder.push(jump)) == (8, 8)
+    refusal(builder.push(branch)) == Some((7, 0)) && refusal(builder.push(jump)) == Some((8, 8))
 }
 
 // Tables that are refused come back, and are refused again.
@@ -95,9 +89,9 @@ pub(crate) fn registers_at_their_most(rt: &HostRuntime) -> bool {
             return false;
         }
     }
-    refusal(builder.alloc(Type(3))) == (2, 2_097_150)
-        && refusal(builder.alloc(Type(5))) == (0, 0)
-        && refusal(builder.alloc(Type(1))) == (2, 2_097_151)
-        && refusal(builder.set_vreg_alias(Reg(768), Reg(8_388_600))) == (0, 0)
-        && refusal(builder.set_vreg_alias(Reg(768), Reg(8_388_604))) == (4, 1)
+    refusal(builder.alloc(Type(3))) == Some((2, 2_097_150))
+        && refusal(builder.alloc(Type(5))).is_none()
+        && refusal(builder.alloc(Type(1))) == Some((2, 2_097_151))
+        && refusal(builder.set_vreg_alias(Reg(768), Reg(8_388_600))).is_none()
+        && refusal(builder.set_vreg_alias(Reg(768), Reg(8_388_604))) == Some((4, 1))
 }

@@ -1,5 +1,5 @@
--- The number and the place of each fault.
-use Rattle.std.specs.Prelude.{ℕ}
+-- The number, the place and the text of each fault.
+use Rattle.std.specs.Prelude.{ℕ, List, ◌++◌, codes, decimal}
 use Rattle.faults.specs.TableIds.{table_number}
 use Rattle.faults.specs.declared.fault.Fault.{Fault}
 use Rattle.faults.specs.declared.fault.Fault.TheVariants.{Full, RegsExhausted, UnsupportedType, UnknownReg, AliasCycle, AlreadyAliased, LowLevelBranch, TooManySlots, PhysicalRegInMove, Unclosed, NoInsts, NoSuchBlock, OutOfRange, Mismatch, BadAllocation}
@@ -39,3 +39,7 @@ fault_place (NoSuchBlock n) = n
 fault_place (OutOfRange n) = n
 fault_place (Mismatch n) = n
 fault_place (BadAllocation n) = n
+
+-- The text of a fault: its number, a space and its place.
+abbrev pub fault_text : Fault → List ℕ
+fault_text f = decimal (fault_number f) ++ codes " " ++ decimal (fault_place f)

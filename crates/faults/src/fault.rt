@@ -1,10 +1,12 @@
-ghost use Rattle.std.specs.Prelude.{◌≡◌};
-ghost use Rattle.faults.specs.Faults.{fault_number, fault_place};
+ghost use Rattle.std.specs.Prelude.{◌≡◌, Some};
+ghost use Rattle.faults.specs.Faults.{fault_number, fault_place, fault_text};
 
 use crate::table_id::TableId;
+use std::error::Error;
+use std::fmt;
 
 /// Why a call was refused.
-#[derive(Clone, Copy)]
+#[derive(Clone, Copy, Debug, PartialEq, Eq)]
 pub enum Fault {
     /// A table has no room for what would be added; the place is the number of the table.
     Full(TableId),
@@ -67,21 +69,32 @@ impl Fault {
         ensures { result ≡ fault_place self }
     {
         match self {
-            Fault::Full(id) => id.number(),
-            Fault::RegsExhausted(place) => place,
+            Fault::Full(table) => table.number(),
             Fault::UnsupportedType(kind) => usize::from(kind),
-            Fault::UnknownReg(place) => place,
-            Fault::AliasCycle(place) => place,
-            Fault::AlreadyAliased(place) => place,
-            Fault::LowLevelBranch => 0,
+            Fault::LowLevelBranch | Fault::NoInsts => 0,
             Fault::TooManySlots => 8,
-            Fault::PhysicalRegInMove(place) => place,
-            Fault::Unclosed(place) => place,
-            Fault::NoInsts => 0,
-            Fault::NoSuchBlock(place) => place,
-            Fault::OutOfRange(place) => place,
-            Fault::Mismatch(place) => place,
-            Fault::BadAllocation(place) => place,
+            Fault::RegsExhausted(place)
+            | Fault::UnknownReg(place)
+            | Fault::AliasCycle(place)
+            | Fault::AlreadyAliased(place)
+            | Fault::PhysicalRegInMove(place)
+            | Fault::Unclosed(place)
+            | Fault::NoSuchBlock(place)
+            | Fault::OutOfRange(place)
+            | Fault::Mismatch(place)
+            | Fault::BadAllocation(place) => place,
         }
     }
 }
+
+impl fmt::Display for Fault {
+    ghost output = { λ fault. Some (fault_text fault) };
+
+    fn fmt<W: fmt::Write>(&self, f: &mut fmt::Formatter<W>) -> fmt::Result {
+        let number = self.number();
+        let place = self.place();
+        write!(f, "{number} {place}")
+    }
+}
+
+impl Error for Fault {}

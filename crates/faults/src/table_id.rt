@@ -2,30 +2,30 @@ ghost use Rattle.std.specs.Prelude.{◌≡◌, ◌≤◌};
 ghost use Rattle.faults.specs.TableIds.{table_number, table_most, capacity_of};
 
 /// Which table it is, and so how many entries it can have.
-#[derive(Clone, Copy)]
+#[derive(Clone, Copy, Debug, PartialEq, Eq)]
 pub enum TableId {
     /// The virtual registers.
-    Registers,
+    Registers = 0,
     /// The instructions.
-    Insts,
+    Insts = 1,
     /// The blocks.
-    Blocks,
+    Blocks = 2,
     /// The successors of the blocks.
-    Succs,
+    Succs = 3,
     /// The arguments of the branches.
-    BranchArgs,
+    BranchArgs = 4,
     /// The parameters of the blocks.
-    BlockParams,
+    BlockParams = 5,
     /// The labels.
-    Labels,
+    Labels = 6,
     /// The operands of the instructions.
-    Operands,
+    Operands = 7,
     /// The predecessors of the blocks.
-    Preds,
+    Preds = 8,
     /// The labels of the built code.
-    BuiltLabels,
+    BuiltLabels = 9,
     /// A list of ranges that is used alone.
-    Ranges,
+    Ranges = 11,
 }
 
 impl TableId {
@@ -33,19 +33,7 @@ impl TableId {
     pub fn number(self) -> usize
         ensures { result ≡ table_number self }
     {
-        match self {
-            TableId::Registers => 0,
-            TableId::Insts => 1,
-            TableId::Blocks => 2,
-            TableId::Succs => 3,
-            TableId::BranchArgs => 4,
-            TableId::BlockParams => 5,
-            TableId::Labels => 6,
-            TableId::Operands => 7,
-            TableId::Preds => 8,
-            TableId::BuiltLabels => 9,
-            TableId::Ranges => 11,
-        }
+        self as usize
     }
 
     /// The most entries that the table can have.

@@ -5,20 +5,18 @@ use ranges::ranges::Ranges;
 use regs::preg_set::PRegSet;
 use regs::reg::{PReg, Reg};
 
-fn refusal(r: Result<(), Fault>) -> (usize, usize) {
-    match r {
-        Ok(()) => (0, 0),
-        Err(fault) => (fault.number(), fault.place()),
-    }
+// The number and the place of a refusal.
+fn refusal(answer: Result<(), Fault>) -> Option<(usize, usize)> {
+    answer.err().map(|fault| (fault.number(), fault.place()))
 }
 
-fn class_after(mut calls: FunctionCalls, call: CallType) -> u8 {
-    calls.update(call);
-    match calls {
-        FunctionCalls::None => 0,
-        FunctionCalls::TailOnly => 1,
-        FunctionCalls::Regular => 2,
-    }
+// The classes after each of the three calls.
+fn classes_after(calls: FunctionCalls) -> [FunctionCalls; 3] {
+    [CallType::None, CallType::Regular, CallType::TailCall].map(|call| {
+        let mut after = calls;
+        after.update(call);
+        after
+    })
 }
 
 pub(crate) fn words_of_every_kind() -> bool {
@@ -36,40 +34,27 @@ pub(crate) fn sets_of_registers() -> bool {
     set.add(PReg(64));
     set.add(PReg(191));
     set.add(PReg(192));
-    set.contains(PReg(1)) && !set.contains(PReg(2)) && set.w1 == 1 && set.contains(PReg(191))
+    set.contains(PReg(1)) && !set.contains(PReg(2)) && set.bits[1] == 1 && set.contains(PReg(191))
 }
 
 pub(crate) fn classes_of_calls() -> bool {
-    use CallType::{None, Regular, TailCall};
-    let from_none = (
-        class_after(FunctionCalls::None, None),
-        class_after(FunctionCalls::None, Regular),
-        class_after(FunctionCalls::None, TailCall),
-    );
-    let from_tail = (
-        class_after(FunctionCalls::TailOnly, None),
-        class_after(FunctionCalls::TailOnly, Regular),
-        class_after(FunctionCalls::TailOnly, TailCall),
-    );
-    let from_regular = (
-        class_after(FunctionCalls::Regular, None),
-        class_after(FunctionCalls::Regular, Regular),
-        class_after(FunctionCalls::Regular, TailCall),
-    );
-    from_none == (0, 2, 1) && from_tail == (1, 2, 1) && from_regular == (2, 2, 2)
+    use FunctionCalls::{None, Regular, TailOnly};
+    classes_after(None) == [None, Regular, TailOnly]
+        && classes_after(TailOnly) == [TailOnly, Regular, TailOnly]
+        && classes_after(Regular) == [Regular, Regular, Regular]
 }
 
 fn full_and_falling(ranges: &mut Ranges) -> bool {
-    refusal(ranges.push_end(4)) == (0, 0)
-        && refusal(ranges.push_end(6)) == (0, 0)
-        && refusal(ranges.push_end(5)) == (15, 5)
-        && refusal(ranges.push_end(6)) == (1, 11)
+    refusal(ranges.push_end(4)).is_none()
+        && refusal(ranges.push_end(6)).is_none()
+        && refusal(ranges.push_end(5)) == Some((15, 5))
+        && refusal(ranges.push_end(6)) == Some((1, 11))
 }
 
 fn reversed_and_full(ranges: &mut Ranges) -> bool {
-    refusal(ranges.reverse_target(5)) == (15, 5)
-        && refusal(ranges.reverse_target(6)) == (0, 0)
-        && refusal(ranges.push_end(7)) == (15, 7)
+    refusal(ranges.reverse_target(5)) == Some((15, 5))
+        && refusal(ranges.reverse_target(6)).is_none()
+        && refusal(ranges.push_end(7)) == Some((15, 7))
 }
 
 pub(crate) fn ends_that_are_refused(rt: &HostRuntime) -> bool {
@@ -81,5 +66,5 @@ pub(crate) fn ends_that_are_refused(rt: &HostRuntime) -> bool {
     };
     full_and_falling(&mut ranges)
         && reversed_and_full(&mut ranges)
-        && refusal(blocks.check_end(0)) == (1, 2)
+        && refusal(blocks.check_end(0)) == Some((1, 2))
 }

@@ -1,17 +1,14 @@
 -- An instruction under no wrapper.
-use Rattle.std.proofs.Common.{◌≡◌, Bool, true, false, ◌||◌, [], sym, refl}
+use Rattle.std.proofs.Common.{[], sym, refl}
 use Rattle.machinst.specs.Layers.{Under}
 use Rattle.machinst.specs.Meaning.{Meaning, slots_of}
+use Rattle.std.proofs.Math.Bool.{or-false}
 use Rattle.std.proofs.lemmas.List.{append-nil}
-
-pub or_false : (a : Bool) → a || false ≡ a
-or_false true = refl
-or_false false = refl
 
 pub under_none : (m : Meaning) → Under [] m m
 under_none m = record {
   slots = sym (append-nil (slots_of m));
-  clobbers = λ n. sym (or_false (m.operation.clobbers n));
+  clobbers = λ n. sym (or-false (m.operation.clobbers n));
   move = refl;
   payload = refl;
   control = refl;

@@ -19,9 +19,6 @@ pub trait MachInst {
     // The registers that hold a value of the type with this number; none where the type is unsupported.
     ghost parts: { ℕ → Option Parts };
 
-    // The two slots of a move exist.
-    ghost moves: { (x : Self) → MoveWithin (meaning x) };
-
     /// The classes of the one or two registers that hold a value of this type, and the type of each part.
     fn rc_for_type(ty: Type) -> Option<(&'static [RegClass], &'static [Type])>
         ensures { option_map (λ p. (map class_number p.0.now, map (λ t. t.0) p.1.now)) result ≡ option_map part_lists (parts ty.0) };
@@ -68,4 +65,7 @@ pub trait MachInst {
     /// Puts `reg` into slot k, and changes nothing else; where there is no slot k, nothing.
     fn set_slot(&mut self, k: usize, reg: Reg)
         ensures { meaning self.new ≡ with_word (meaning self.old) k reg.0 };
+
+    // The two slots of a move exist.
+    ghost moves: { (x : Self) → MoveWithin (meaning x) };
 }

@@ -1,9 +1,7 @@
 -- The rules of a list of ranges.
 use Rattle.std.specs.Prelude.{ℕ, ◌-◌, Bool, false, cond, not, List, [], ◌∷◌, ◌++◌, map, reverse, length, drop, Some, None, Option, ◌==◌, nat_lt, slice_index}
-use Rattle.tables.specs.Tables.{entries, bound, id_of}
 use Rattle.faults.specs.declared.fault.Fault.{Fault}
 use Rattle.faults.specs.declared.fault.Fault.TheVariants.{Full, Mismatch}
-use Rattle.ranges.specs.declared.ranges.Ranges.{Ranges}
 use Rattle.faults.specs.declared.table_id.TableId.{TableId}
 
 -- What a list of ranges is: the end of each range in storage, whether the ranges are numbered from the last, how many there is room for, and which table it is.
@@ -12,9 +10,6 @@ pub record Spans : Type 0 where
   pub reversed : Bool
   pub most : ℕ
   pub id : TableId
-
-abbrev pub spans : Ranges → Spans
-spans r = record { ends = entries r.ends; reversed = r.reversed; most = bound r.ends; id = id_of r.ends }
 
 -- No ranges, numbered from the first.
 abbrev pub no_spans : TableId → ℕ → Spans
@@ -47,11 +42,11 @@ end_fault s e =
 
 -- With a range from the last end to e.
 abbrev pub with_end : Spans → ℕ → Spans
-with_end s e = record { ends = s.ends ++ e ∷ []; reversed = s.reversed; most = s.most; id = s.id }
+with_end s e = record s { ends = s.ends ++ e ∷ [] }
 
 -- With the numbering reversed.
 abbrev pub index_reversed : Spans → Spans
-index_reversed s = record { ends = s.ends; reversed = not s.reversed; most = s.most; id = s.id }
+index_reversed s = record s { reversed = not s.reversed }
 
 -- Why the ranges do not follow the reversal of t entries, if they do not.
 abbrev pub target_fault : Spans → ℕ → Option Fault
@@ -63,4 +58,4 @@ reversed_ends t es = drop 1 (reverse (map (λ e. t - e) (endpoints es)))
 
 -- After the reversal of the t entries that the ranges span.
 abbrev pub target_reversed : Spans → ℕ → Spans
-target_reversed s t = record { ends = reversed_ends t s.ends; reversed = not s.reversed; most = s.most; id = s.id }
+target_reversed s t = record (index_reversed s) { ends = reversed_ends t s.ends }

@@ -1,14 +1,13 @@
 ghost use Rattle.std.specs.Prelude.{◌≡◌, ℕ, ◌-◌, ◌^◌, min, false, ◌&&◌, ◌||◌, ◌==◌, nat_lt};
-ghost use Rattle.regs.specs.Sets.{first_regs, member, word_of, lone_word};
+ghost use Rattle.regs.specs.Sets.{first_regs, member};
 
 use crate::reg::PReg;
+use std::array;
 
 /// A set of physical registers: bit b of word w is register 64 × w + b.
-#[derive(Clone, Copy)]
+#[derive(Clone, Copy, Debug, PartialEq, Eq)]
 pub struct PRegSet {
-    pub w0: u64,
-    pub w1: u64,
-    pub w2: u64,
+    pub bits: [u64; 3],
 }
 
 impl PRegSet {
@@ -16,37 +15,7 @@ impl PRegSet {
     pub fn empty() -> PRegSet
         ensures { (n : ℕ) → member result n ≡ false }
     {
-        PRegSet::from_word(0, 0)
-    }
-
-    // The set whose word w is `bits`, and whose other words are 0.
-    fn from_word(w: u8, bits: u64) -> PRegSet
-        ensures { result ≡ lone_word w bits }
-    {
-        PRegSet {
-            w0: if w == 0 { bits } else { 0 },
-            w1: if w == 1 { bits } else { 0 },
-            w2: if w == 2 { bits } else { 0 },
-        }
-    }
-
-    // Word w; 0 where there is none.
-    fn word(self, w: u8) -> u64
-        ensures { result ≡ word_of self w }
-    {
-        match w {
-            0 => self.w0,
-            1 => self.w1,
-            2 => self.w2,
-            _ => 0,
-        }
-    }
-
-    // This register alone; none where there is no such register.
-    fn single(reg: PReg) -> PRegSet
-        ensures { (n : ℕ) → member result n ≡ (n == reg.0) && nat_lt n 192 }
-    {
-        PRegSet::from_word(reg.0 / 64, 1u64 << (reg.0 % 64))
+        PRegSet { bits: [0; 3] }
     }
 
     /// The registers below `count`, or below 64 where that is less.
@@ -54,7 +23,9 @@ impl PRegSet {
         ensures members { (n : ℕ) → member result n ≡ nat_lt n (min count 64) }
         ensures words { result ≡ first_regs (min count 64) }
     {
-        PRegSet::from_word(0, ones(count))
+        PRegSet {
+            bits: [ones(count), 0, 0],
+        }
     }
 
     /// The registers of both sets.
@@ -62,9 +33,7 @@ impl PRegSet {
         ensures { (n : ℕ) → member result n ≡ member self n || member other n }
     {
         PRegSet {
-            w0: self.w0 | other.w0,
-            w1: self.w1 | other.w1,
-            w2: self.w2 | other.w2,
+            bits: array::from_fn(|w| self.bits[w] | other.bits[w]),
         }
     }
 
@@ -72,14 +41,19 @@ impl PRegSet {
     pub fn add(&mut self, reg: PReg)
         ensures { (n : ℕ) → member self.new n ≡ member self.old n || (n == reg.0 && nat_lt n 192) }
     {
-        *self = self.union(PRegSet::single(reg));
+        let w = usize::from(reg.0 / 64);
+        if w < self.bits.len() {
+            self.bits[w] |= 1 << (reg.0 % 64);
+        }
     }
 
     /// Whether the register is in the set.
     pub fn contains(self, reg: PReg) -> bool
         ensures { result ≡ member self reg.0 }
     {
-        (self.word(reg.0 / 64) >> (reg.0 % 64)) & 1 == 1
+        self.bits
+            .get(usize::from(reg.0 / 64))
+            .is_some_and(|word| (word >> (reg.0 % 64)) & 1 == 1)
     }
 }
 

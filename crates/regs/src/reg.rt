@@ -7,32 +7,32 @@ ghost use Rattle.std.specs.Option.{option_map};
 const SPILLSLOT_BIT: u32 = 0x8000_0000;
 
 /// How many of the first indexes are physical registers.
-const PINNED_VREGS: u32 = 192;
+pub const PINNED_VREGS: usize = 192;
 
 /// A register named in an instruction: a spill slot where bit 31 is set, otherwise 4 × index + class.
-#[derive(Clone, Copy, PartialEq, Eq)]
+#[derive(Clone, Copy, Debug, PartialEq, Eq)]
 pub struct Reg(pub u32);
 
 /// The class of a register.
-#[derive(Clone, Copy)]
+#[derive(Clone, Copy, Debug, PartialEq, Eq)]
 pub enum RegClass {
-    Int,
-    Float,
-    Vector,
+    Int = 0,
+    Float = 1,
+    Vector = 2,
 }
 
 /// A physical register, by its number.
-#[derive(Clone, Copy)]
+#[derive(Clone, Copy, Debug, PartialEq, Eq)]
 pub struct PReg(pub u8);
 
 /// A register that is written.
-#[derive(Clone, Copy)]
+#[derive(Clone, Copy, Debug, PartialEq, Eq)]
 pub struct Writable<T> {
     pub reg: T,
 }
 
 /// The number of a type of values.
-#[derive(Clone, Copy)]
+#[derive(Clone, Copy, Debug, PartialEq, Eq)]
 pub struct Type(pub u16);
 
 impl RegClass {
@@ -40,11 +40,7 @@ impl RegClass {
     pub fn number(self) -> u32
         ensures { result ≡ class_number self }
     {
-        match self {
-            RegClass::Int => 0,
-            RegClass::Float => 1,
-            RegClass::Vector => 2,
-        }
+        self as u32
     }
 }
 
@@ -86,6 +82,6 @@ impl Reg {
     pub fn is_real(self) -> bool
         ensures { result ≡ physical self.0 }
     {
-        self.0 / 4 < PINNED_VREGS
+        ((self.0 / 4) as usize) < PINNED_VREGS
     }
 }

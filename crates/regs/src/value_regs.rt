@@ -3,7 +3,7 @@ ghost use Rattle.regs.specs.Parts.{value_regs};
 ghost use Rattle.std.specs.List.{slice_get};
 
 /// The one or two registers that hold a value.
-#[derive(Clone, Copy)]
+#[derive(Clone, Copy, Debug, PartialEq, Eq)]
 pub struct ValueRegs<R> {
     first: R,
     second: Option<R>,

@@ -12,9 +12,9 @@ use Rattle.regs.specs.declared.reg.RegClass.{RegClass}
 use Rattle.set_p.specs.declared.P.{P}
 use Rattle.set_p.specs.declared.P.TheVariants.{Imm, Add, Move, Call, TailCall, Ret, Branch, Jump, Trap, Skip}
 
--- control that ends a block
-abbrev ends : MachTerminator → CallType → Control
-ends t c = record {
+-- this terminator and this call, and no trap or low-level branch
+abbrev control : MachTerminator → CallType → Control
+control t c = record {
   terminator = terminator_number t;
   trap = false;
   call = call_number c;
@@ -42,18 +42,12 @@ meaning_p (Call a d) = record {
     move = None;
     payload = 3;
   };
-  control = record {
-    terminator = terminator_number MachTerminator.None;
-    trap = false;
-    call = call_number CallType.Regular;
-    included = true;
-    low_level_branch = false;
-  };
+  control = control MachTerminator.None CallType.Regular;
 }
-meaning_p (TailCall a) = ending (ends MachTerminator.RetCall CallType.TailCall) (early_use (fixed 0) a.0 ∷ []) 4
-meaning_p (Ret a) = ending (ends MachTerminator.Ret CallType.None) (early_use (fixed 0) a.0 ∷ []) 5
-meaning_p (Branch a) = ending (ends MachTerminator.Branch CallType.None) (early_use in_reg a.0 ∷ []) 6
-meaning_p Jump = ending (ends MachTerminator.Branch CallType.None) [] 7
+meaning_p (TailCall a) = ending (control MachTerminator.RetCall CallType.TailCall) (early_use (fixed 0) a.0 ∷ []) 4
+meaning_p (Ret a) = ending (control MachTerminator.Ret CallType.None) (early_use (fixed 0) a.0 ∷ []) 5
+meaning_p (Branch a) = ending (control MachTerminator.Branch CallType.None) (early_use in_reg a.0 ∷ []) 6
+meaning_p Jump = ending (control MachTerminator.Branch CallType.None) [] 7
 meaning_p Trap =
     ending
     (record {

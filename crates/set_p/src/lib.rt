@@ -53,36 +53,19 @@ impl MachInst for P {
     }
 
     fn slot(&self, k: usize) -> Option<Operand> {
-        match *self {
-            P::Imm { d, .. } => match k {
-                0 => Some(Operand::late_def(d, OperandConstraint::Reg)),
-                _ => None,
-            },
-            P::Add { a, b, d } => match k {
-                0 => Some(Operand::early_use(a, OperandConstraint::Reg)),
-                1 => Some(Operand::early_use(b, OperandConstraint::Reg)),
-                2 => Some(Operand::late_def(d, OperandConstraint::Reg)),
-                _ => None,
-            },
-            P::Move { s, d } => match k {
-                0 => Some(Operand::early_use(s, OperandConstraint::Reg)),
-                1 => Some(Operand::late_def(d, OperandConstraint::Reg)),
-                _ => None,
-            },
-            P::Call { a, d } => match k {
-                0 => Some(Operand::early_use(a, CALL_REG)),
-                1 => Some(Operand::late_def(d, CALL_REG)),
-                _ => None,
-            },
-            P::TailCall { a } | P::Ret { a } => match k {
-                0 => Some(Operand::early_use(a, CALL_REG)),
-                _ => None,
-            },
-            P::Branch { a } => match k {
-                0 => Some(Operand::early_use(a, OperandConstraint::Reg)),
-                _ => None,
-            },
-            P::Jump | P::Trap | P::Skip => None,
+        match (*self, k) {
+            (P::Imm { d, .. }, 0) | (P::Move { d, .. }, 1) | (P::Add { d, .. }, 2) => Some(
+                Operand::late_def(d, OperandConstraint::Reg),
+            ),
+            (P::Add { a, .. } | P::Move { s: a, .. } | P::Branch { a }, 0) => Some(
+                Operand::early_use(a, OperandConstraint::Reg),
+            ),
+            (P::Add { b, .. }, 1) => Some(Operand::early_use(b, OperandConstraint::Reg)),
+            (P::Call { a, .. } | P::TailCall { a } | P::Ret { a }, 0) => Some(Operand::early_use(
+                a, CALL_REG,
+            )),
+            (P::Call { d, .. }, 1) => Some(Operand::late_def(d, CALL_REG)),
+            _ => None,
         }
     }
 
@@ -145,44 +128,19 @@ impl MachInst for P {
     }
 
     fn set_slot(&mut self, k: usize, reg: Reg) {
-        match self {
-            P::Imm { d, .. } => {
-                if k == 0 {
-                    d.reg = reg;
-                }
-            }
-            P::Add { a, b, d } => match k {
-                0 => *a = reg,
-                1 => *b = reg,
-                2 => d.reg = reg,
-                _ => {}
-            },
-            P::Move { s, d } => match k {
-                0 => *s = reg,
-                1 => d.reg = reg,
-                _ => {}
-            },
-            P::Call { a, d } => match k {
-                0 => *a = reg,
-                1 => d.reg = reg,
-                _ => {}
-            },
-            P::TailCall { a } => {
-                if k == 0 {
-                    *a = reg;
-                }
-            }
-            P::Ret { a } => {
-                if k == 0 {
-                    *a = reg;
-                }
-            }
-            P::Branch { a } => {
-                if k == 0 {
-                    *a = reg;
-                }
-            }
-            P::Jump | P::Trap | P::Skip => {}
+        match (self, k) {
+            (P::Imm { d, .. }, 0) => d.reg = reg,
+            (P::Add { a, .. }, 0) => *a = reg,
+            (P::Add { b, .. }, 1) => *b = reg,
+            (P::Add { d, .. }, 2) => d.reg = reg,
+            (P::Move { s, .. }, 0) => *s = reg,
+            (P::Move { d, .. }, 1) => d.reg = reg,
+            (P::Call { a, .. }, 0) => *a = reg,
+            (P::Call { d, .. }, 1) => d.reg = reg,
+            (P::TailCall { a }, 0) => *a = reg,
+            (P::Ret { a }, 0) => *a = reg,
+            (P::Branch { a }, 0) => *a = reg,
+            _ => {}
         }
     }
 }

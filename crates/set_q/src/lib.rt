@@ -1,9 +1,9 @@
 //! Instruction set Q: one record for all instructions, read by a table of rows.
 #![tactic(auto)]
 
-ghost use Rattle.std.specs.Prelude.{◌≡◌, [], slice_index_or};
+ghost use Rattle.std.specs.Prelude.{◌≡◌, []};
 ghost use Rattle.machinst.specs.Meaning.{slot_of};
-ghost use Rattle.set_q.specs.MeaningQ.{meaning_q, moves_q, no_row, parts_q, rows, shaped};
+ghost use Rattle.set_q.specs.MeaningQ.{meaning_q, moves_q, parts_q, row_at, row_of, shaped};
 
 use machinst::control::{CallType, MachTerminator};
 use machinst::inst::MachInst;
@@ -16,9 +16,8 @@ use regs::reg::{PReg, Reg, RegClass, Type};
 #[derive(Clone, Copy)]
 pub struct Q {
     pub opcode: u8,
-    pub w0: Reg,
-    pub w1: Reg,
-    pub w2: Reg,
+    /// The words w0, w1 and w2.
+    pub words: [Reg; 3],
     pub number: u32,
 }
 
@@ -30,19 +29,24 @@ pub struct Shape {
     pub pos: OperandPos,
 }
 
-/// The slots of a row: slot k has the word k.
-#[derive(Clone, Copy)]
-pub enum Shapes {
-    Zero,
-    One(Shape),
-    Two(Shape, Shape),
-    Three(Shape, Shape, Shape),
+impl Shape {
+    fn operand(self, reg: Reg) -> Operand
+        ensures { slot_of result ≡ shaped self reg.0 }
+    {
+        Operand {
+            reg,
+            constraint: self.constraint,
+            kind: self.kind,
+            pos: self.pos,
+        }
+    }
 }
 
 /// What an opcode says of its instructions.
 #[derive(Clone, Copy)]
 pub struct Row {
-    pub shapes: Shapes,
+    /// The slots: slot k has the word k.
+    pub shapes: &'static [Shape],
     pub clobbers: PRegSet,
     pub terminator: MachTerminator,
     pub trap: bool,
@@ -59,8 +63,7 @@ const USE: Shape = Shape {
 
 const USE_FIXED: Shape = Shape {
     constraint: OperandConstraint::FixedReg(PReg(0)),
-    kind: OperandKind::Use,
-    pos: OperandPos::Early,
+    ..USE
 };
 
 const DEF: Shape = Shape {
@@ -71,24 +74,18 @@ const DEF: Shape = Shape {
 
 const DEF_FIXED: Shape = Shape {
     constraint: OperandConstraint::FixedReg(PReg(0)),
-    kind: OperandKind::Def,
-    pos: OperandPos::Late,
+    ..DEF
 };
 
 const DEF_REUSE: Shape = Shape {
     constraint: OperandConstraint::Reuse(0),
-    kind: OperandKind::Def,
-    pos: OperandPos::Late,
+    ..DEF
 };
 
 /// The row of the opcodes that have none of their own.
 const NO_ROW: Row = Row {
-    shapes: Shapes::Zero,
-    clobbers: PRegSet {
-        w0: 0,
-        w1: 0,
-        w2: 0,
-    },
+    shapes: &[],
+    clobbers: PRegSet { bits: [0; 3] },
     terminator: MachTerminator::None,
     trap: false,
     call: CallType::None,
@@ -98,36 +95,34 @@ const NO_ROW: Row = Row {
 
 static ROWS: [Row; 8] = [
     Row {
-        shapes: Shapes::One(DEF),
+        shapes: &[DEF],
         ..NO_ROW
     },
     Row {
-        shapes: Shapes::Three(USE, USE, DEF_REUSE),
+        shapes: &[USE, USE, DEF_REUSE],
         ..NO_ROW
     },
     Row {
-        shapes: Shapes::Two(USE, DEF),
+        shapes: &[USE, DEF],
         pair: Some((1, 0)),
         ..NO_ROW
     },
     Row {
-        shapes: Shapes::Two(USE_FIXED, DEF_FIXED),
+        shapes: &[USE_FIXED, DEF_FIXED],
         clobbers: PRegSet {
-            w0: 0xffff,
-            w1: 0,
-            w2: 0,
+            bits: [0xffff, 0, 0],
         },
         call: CallType::Regular,
         included: false,
         ..NO_ROW
     },
     Row {
-        shapes: Shapes::One(USE_FIXED),
+        shapes: &[USE_FIXED],
         terminator: MachTerminator::Ret,
         ..NO_ROW
     },
     Row {
-        shapes: Shapes::One(USE),
+        shapes: &[USE],
         terminator: MachTerminator::Branch,
         ..NO_ROW
     },
@@ -141,21 +136,12 @@ static ROWS: [Row; 8] = [
     },
 ];
 
-fn row_of(opcode: u8) -> Row
-    ensures { result ≡ slice_index_or rows opcode no_row }
-{
-    let i = opcode as usize;
-    if i < ROWS.len() { ROWS[i] } else { NO_ROW }
-}
-
-fn shaped_operand(shape: Shape, reg: Reg) -> Operand
-    ensures { slot_of result ≡ shaped shape reg.0 }
-{
-    Operand {
-        reg,
-        constraint: shape.constraint,
-        kind: shape.kind,
-        pos: shape.pos,
+impl Q {
+    /// The row of the instruction's opcode.
+    fn row(&self) -> &'static Row
+        ensures { row_of result.now ≡ row_at self.now.opcode }
+    {
+        ROWS.get(usize::from(self.opcode)).unwrap_or(&NO_ROW)
     }
 }
 
@@ -174,35 +160,30 @@ impl MachInst for Q {
         }
     }
 
+    #[tactic(auto, using(crate::proofs::Slots::slot_shaped))]
     fn slot(&self, k: usize) -> Option<Operand> {
-        match (row_of(self.opcode).shapes, k) {
-            (Shapes::One(a) | Shapes::Two(a, _) | Shapes::Three(a, _, _), 0) => Some(shaped_operand(
-                a, self.w0,
-            )),
-            (Shapes::Two(_, b) | Shapes::Three(_, b, _), 1) => Some(shaped_operand(b, self.w1)),
-            (Shapes::Three(_, _, c), 2) => Some(shaped_operand(c, self.w2)),
-            _ => None,
-        }
+        let shape = self.row().shapes.get(k)?;
+        Some(shape.operand(self.words[k]))
     }
 
     fn clobbers(&self) -> PRegSet {
-        row_of(self.opcode).clobbers
+        self.row().clobbers
     }
 
     fn is_term(&self) -> MachTerminator {
-        row_of(self.opcode).terminator
+        self.row().terminator
     }
 
     fn is_trap(&self) -> bool {
-        row_of(self.opcode).trap
+        self.row().trap
     }
 
     fn call_type(&self) -> CallType {
-        row_of(self.opcode).call
+        self.row().call
     }
 
     fn is_included_in_clobbers(&self) -> bool {
-        row_of(self.opcode).included
+        self.row().included
     }
 
     fn is_low_level_branch(&self) -> bool {
@@ -210,7 +191,7 @@ impl MachInst for Q {
     }
 
     fn is_move(&self) -> Option<(usize, usize)> {
-        row_of(self.opcode).pair
+        self.row().pair
     }
 
     fn payload(&self) -> u64 {
@@ -218,11 +199,8 @@ impl MachInst for Q {
     }
 
     fn set_slot(&mut self, k: usize, reg: Reg) {
-        match (row_of(self.opcode).shapes, k) {
-            (Shapes::One(_) | Shapes::Two(_, _) | Shapes::Three(_, _, _), 0) => self.w0 = reg,
-            (Shapes::Two(_, _) | Shapes::Three(_, _, _), 1) => self.w1 = reg,
-            (Shapes::Three(_, _, _), 2) => self.w2 = reg,
-            _ => {}
+        if k < self.row().shapes.len() {
+            self.words[k] = reg;
         }
     }
 }

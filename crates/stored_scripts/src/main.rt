@@ -14,12 +14,12 @@ fn is_as_stored(rt: &HostRuntime, name: &str) -> anyhow::Result<bool> {
     Ok(out.as_bytes() == transcript.as_slice())
 }
 
-fn run_all(rt: &HostRuntime) -> anyhow::Result<()> {
-    let names = fs::read_to_string(rt, "names")?;
+fn main(rt: HostRuntime) -> anyhow::Result<()> {
+    let names = fs::read_to_string(&rt, "names")?;
     let mut same = 0u32;
     let mut other = 0u32;
     for name in names.lines() {
-        if is_as_stored(rt, name)? {
+        if is_as_stored(&rt, name)? {
             same = same.saturating_add(1);
         } else {
             other = other.saturating_add(1);
@@ -28,8 +28,4 @@ fn run_all(rt: &HostRuntime) -> anyhow::Result<()> {
     }
     println!(rt; "{same} transcripts as stored, {other} other")?;
     Ok(())
-}
-
-fn main(rt: HostRuntime) -> anyhow::Result<()> {
-    run_all(&rt)
 }

@@ -1,22 +1,14 @@
 -- What a table holds.
-use Rattle.std.specs.Prelude.{ℕ, List, vec_items}
-use Rattle.std.specs.Vec.{with_items}
-use Rattle.tables.specs.declared.table.Table.{Table}
+use Rattle.std.specs.Prelude.{ℕ, List, length}
+use Rattle.std.specs.List.{refill}
 use Rattle.faults.specs.declared.table_id.TableId.{TableId}
 
-module _ {T : Type 0} where
-  -- the entries, in order
-  abbrev pub entries : Table T → List T
-  entries t = vec_items t.items
+-- The entries in order, which table it is, and how many entries there is room for.
+pub record Contents (T : Type 0) : Type 0 where
+  pub entries : List T
+  pub id : TableId
+  pub limit : ℕ
 
-  -- how many entries there is room for
-  abbrev pub bound : Table T → ℕ
-  bound t = t.limit
-
-  -- which table it is
-  abbrev pub id_of : Table T → TableId
-  id_of t = t.id
-
-  -- the table with ws, as many as there are entries, in their place
-  abbrev pub refitted : Table T → List T → Table T
-  refitted t ws = record { items = with_items t.items ws; id = t.id; limit = t.limit; within = t.within; room = t.room; few = t.few }
+-- The table after a write of its entries as a slice, which keeps their number.
+abbrev pub refitted : {T : Type 0} → Contents T → List T → Contents T
+refitted t ws = record t { entries = refill (length t.entries) t.entries ws }

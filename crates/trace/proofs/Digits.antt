@@ -1,9 +1,17 @@
--- How a number is read, digit by digit. Assumes nothing.
-use Rattle.std.proofs.Common.{◌≡◌, ℕ, ◌+◌, ◌-◌, ◌*◌, ◌^◌, ◌<◌, ◌≤◌, min, true, false, eqb, ltb, List, [], ◌∷◌, length, get_or, drop, Some, None, Ok, Err, refl, ◌∙◌, arith, le-ltb, lt-ltb, false-eqb}
-use Rattle.std.proofs.lemmas.List.{at_drop_more, at_drop_all}
+-- How a number is read, digit by digit.
+use Rattle.std.proofs.Common.{◌≡◌, ℕ, ◌+◌, ◌-◌, ◌*◌, ◌^◌, ◌<◌, ◌≤◌, Bool, true, false, ltb, cond, List, [], ◌∷◌, length, get_or, drop, Option, Some, None, MatchOption, Ok, Err, Result, refl, sym, ap, subst, ◌∙◌, ⊎_elim, arith, le-ltb, lt-ltb}
+use Rattle.std.proofs.Math.Nat.{pow-le-pow_right}
+use Rattle.std.proofs.lemmas.Bool.{cases_lt}
+use Rattle.std.specs.Option.{SomeIff}
+use Rattle.std.proofs.lemmas.List.{at_drop_more}
 use Rattle.std.specs.Char.{is_ascii_digit}
+use Rattle.trace.specs.declared.reason.Reason.{Reason}
 use Rattle.trace.specs.declared.reason.Reason.TheVariants.{NotANumber, TooWide}
-use Rattle.trace.specs.Numbers.{numeral, numeral_after, read_number}
+use Rattle.trace.specs.Numbers.{numeral, numeral_after, read_number, under}
+
+-- the number, where it has 64 bits
+abbrev pub held : ℕ → Option ℕ
+held n = cond (ltb n (2 ^ 64)) (Some n) None
 
 -- the first i bytes of the word are digits, and write n
 abbrev pub Begun : List ℕ → ℕ → ℕ → Type 0
@@ -21,24 +29,35 @@ no_digit word i n limit lt d so =
     let none : numeral word ≡ None = numeral_whole word (omega arith) ∙ so ∙ at_drop_more (numeral_after n) word i 0 lt ∙ simp d in
     simp none
 
-whole : (word : List ℕ) (i n : ℕ) → 0 < length word → length word ≤ i → Begun word i n → numeral word ≡ Some n
-whole word i n some all so = numeral_whole word some ∙ so ∙ at_drop_all (numeral_after n) word i all
+held_yes : (n : ℕ) → n < 2 ^ 64 → held n ≡ Some n
+held_yes n lt = ap (λ b. cond b (Some n) None) (lt-ltb n (2 ^ 64) lt)
 
--- the number so far may be held at 2 ^ 64 where it is larger
-pub capped : (n d : ℕ) → min (min n (2 ^ 64) * 10 + d) (2 ^ 64) ≡ min (n * 10 + d) (2 ^ 64)
-capped n d = omega arith
+held_no : (n : ℕ) → 2 ^ 64 ≤ n → held n ≡ None
+held_no n ge = ap (λ b. cond b (Some n) None) (le-ltb n (2 ^ 64) ge)
 
--- at the end of the word
-module _ (word : List ℕ) (i n : ℕ) {v max : ℕ} (some : false ≡ eqb (length word) 0) (all : length word ≤ i) (so : Begun word i n) (held : v ≡ min n (2 ^ 64)) where
-  pub fits : v ≤ max → max < 2 ^ 64 → Ok v ≡ read_number (max + 1) word
-  fits le small =
-      let is = whole word i n (omega (arith, false-eqb (length word) 0 some)) all so in
-      let same : v ≡ n = omega arith in
-      let t : ltb n (max + 1) ≡ true = lt-ltb n (max + 1) (omega arith) in
-      simp (is, t, same)
+-- what is made of a number that is held is held, if it still fits
+made_held : (m : ℕ) (r : Option ℕ) → SomeIff r (m < 2 ^ 64) m → r ≡ held m
+made_held m None above = sym (held_no m (⊎_elim (λ lt. absurd (above lt)) (λ ge. ge) (cases_lt m (2 ^ 64))))
+made_held m (Some x) is = ap (λ (y : ℕ). Some y) is.1 ∙ sym (held_yes m is.0)
 
-  pub wide : max < v → Err TooWide ≡ read_number (max + 1) word
-  wide lt =
-      let is = whole word i n (omega (arith, false-eqb (length word) 0 some)) all so in
-      let t : ltb n (max + 1) ≡ false = le-ltb n (max + 1) (omega arith) in
-      simp (is, t)
+-- one more digit
+pub held_more : (n d : ℕ) (v r : Option ℕ) → v ≡ held n → MatchOption v (r ≡ None) (λ x. SomeIff r (x * 10 + d < 2 ^ 64) (x * 10 + d)) → r ≡ held (n * 10 + d)
+held_more n d v r e h =
+    let P : Option ℕ → Type 0 = λ o. MatchOption o (r ≡ None) (λ x. SomeIff r (x * 10 + d < 2 ^ 64) (x * 10 + d)) in
+    ⊎_elim
+    (λ (lt : n < 2 ^ 64). made_held (n * 10 + d) r (subst P (e ∙ held_yes n lt) h))
+    (λ (ge : 2 ^ 64 ≤ n). subst P (e ∙ held_no n ge) h ∙ sym (held_no (n * 10 + d) (omega arith)))
+    (cases_lt n (2 ^ 64))
+
+-- a number that takes more than 64 bits takes more than any fewer
+pub still_wide : (bits : ℕ) (o : Option ℕ) (e : Reason) → bits ≤ 64 → Err e ≡ under (2 ^ 64) o → under (2 ^ bits) o ≡ Err e
+still_wide bits None e le h = sym h
+still_wide bits (Some n) e le h =
+    let tested : Bool → Result ℕ Reason = λ b. cond b (Ok n) (Err TooWide) in
+    ⊎_elim
+    (λ (lt : n < 2 ^ 64). absurd (no_value (h ∙ ap tested (lt-ltb n (2 ^ 64) lt))))
+    (λ (ge : 2 ^ 64 ≤ n). ap tested (le-ltb n (2 ^ bits) (omega (arith, ge, pow-le-pow_right {n = 2} (omega arith) le))) ∙ sym (h ∙ ap tested (le-ltb n (2 ^ 64) ge)))
+    (cases_lt n (2 ^ 64))
+  where
+    no_value : {x : Reason} {m : ℕ} → ◌≡◌ {A = Result ℕ Reason} (Err x) (Ok m) → ⊥
+    no_value h = cc

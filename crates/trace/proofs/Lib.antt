@@ -1,4 +1,4 @@
-pub mod Chains
+pub mod Calls
 pub mod Cuts
 pub mod Digits
 pub mod Nested

@@ -1,36 +1,31 @@
 -- One text written after another.
-use Rattle.std.proofs.Common.{◌≡◌, ℕ, zero, suc, ◌+◌, ◌≤◌, Bool, cond, List, [], ◌∷◌, ◌++◌, length, drop, Some, None, Ok, Err, string_bytes, codes, decimal, Result, String, sym, refl, ap, ◌∙◌, append_assoc, add-one, arith}
+use Rattle.std.proofs.Common.{◌≡◌, ℕ, zero, suc, ◌+◌, ◌≤◌, Bool, true, false, cond, List, [], ◌∷◌, ◌++◌, length, drop, Some, None, codes, decimal, sym, refl, ap, ◌∙◌, append_assoc, add-one, arith}
 use Rattle.machinst.specs.Meaning.{Slot}
 use Rattle.std.proofs.lemmas.List.{append-nil, drop_all}
 use Rattle.std.specs.List.{slice_get}
-use Rattle.std.specs.declared.alloc.Global.{Global}
-use Rattle.trace.specs.Shown.{Appends, clobbers_text, members_text, newline, slot_text, slots_text}
+use Rattle.trace.specs.Shown.{members_text, slot_text, slots_text}
 
-module _ {E : Type 0} where
-  pub append_then : (r : Result (Unit {0}) E) (before mid after : String Global) (a b : List ℕ) → string_bytes mid ≡ string_bytes before ++ a → Appends r mid after b → Appends r before after (a ++ b)
-  append_then (Ok x) before mid after a b e h =
-      h ∙ ap (λ (s : List ℕ). s ++ b) e ∙ append_assoc (string_bytes before) a b
-  append_then (Err x) before mid after a b e h = tt
-
-  pub appends_as : (r : Result (Unit {0}) E) (before after : String Global) (a b : List ℕ) → a ≡ b → Appends r before after a → Appends r before after b
-  appends_as (Ok x) before after a b e h = h ∙ ap (λ (s : List ℕ). string_bytes before ++ s) e
-  appends_as (Err x) before after a b e h = tt
-
--- the members of a set, one number more
+-- the members of a set, and one number more
 pub members_none : (c : ℕ → Bool) (s : List ℕ) → s ≡ s ++ members_text c 0
 unfolding members_text
 members_none c s = sym (append-nil s)
 
-pub members_more : (c : ℕ → Bool) (n : ℕ) → members_text c (n + 1) ≡ members_text c n ++ cond (c n) (codes " " ++ decimal n) []
+pub members_in : (c : ℕ → Bool) (n : ℕ) (s t u : List ℕ) → true ≡ c n → t ≡ s ++ members_text c n → u ≡ t ++ (codes " " ++ decimal n) → u ≡ s ++ members_text c (n + 1)
 unfolding members_text
-members_more c n = rw add-one refl
-
-pub members_step : (c : ℕ → Bool) (n : ℕ) (s t u : List ℕ) → t ≡ s ++ members_text c n → u ≡ t ++ cond (c n) (codes " " ++ decimal n) [] → u ≡ s ++ members_text c (n + 1)
-members_step c n s t u e h =
+members_in c n s t u is e h =
     h
-    ∙ ap (λ (v : List ℕ). v ++ cond (c n) (codes " " ++ decimal n) []) e
-    ∙ append_assoc s (members_text c n) (cond (c n) (codes " " ++ decimal n) [])
-    ∙ ap (λ (v : List ℕ). s ++ v) (sym (members_more c n))
+    ∙ ap (λ (v : List ℕ). v ++ (codes " " ++ decimal n)) e
+    ∙ append_assoc s (members_text c n) (codes " " ++ decimal n)
+    ∙ ap (λ (b : Bool). s ++ (members_text c n ++ cond b (codes " " ++ decimal n) [])) is
+    ∙ ap (λ (k : ℕ). s ++ members_text c k) (sym (add-one n))
+
+pub members_out : (c : ℕ → Bool) (n : ℕ) (s t : List ℕ) → false ≡ c n → t ≡ s ++ members_text c n → t ≡ s ++ members_text c (n + 1)
+unfolding members_text
+members_out c n s t is e =
+    e
+    ∙ ap (λ (v : List ℕ). s ++ v) (sym (append-nil (members_text c n)))
+    ∙ ap (λ (b : Bool). s ++ (members_text c n ++ cond b (codes " " ++ decimal n) [])) is
+    ∙ ap (λ (k : ℕ). s ++ members_text c k) (sym (add-one n))
 
 drop_at : {X : Type 0} (xs : List X) (k : ℕ) (x : X) → Some x ≡ slice_get xs k → drop k xs ≡ x ∷ drop (suc k) xs
 drop_at [] k x e = let z : ◌≡◌ {A = ℕ} 0 1 = cc in absurd (omega arith)
@@ -60,13 +55,3 @@ module _ (i : ℕ) (name : List ℕ) (ss : List Slot) (b : List ℕ) where
   pub slots_all : (k : ℕ) (t : List ℕ) → t ++ slots_text i name k (drop k ss) ≡ b → length ss ≤ k → t ≡ b
   slots_all k t inv h =
       sym (append-nil t) ∙ ap (λ (rest : List Slot). t ++ slots_text i name k rest) (sym (drop_all k ss h)) ∙ inv
-
--- sets with the same members are written alike
-members_as : (c d : ℕ → Bool) → ((n : ℕ) → c n ≡ d n) → (n : ℕ) → members_text c n ≡ members_text d n
-unfolding members_text
-members_as c d e zero = refl
-members_as c d e (suc n) = λ j. members_as c d e n j ++ cond (e n j) (codes " " ++ decimal n) []
-
-pub clobbers_as : (i : ℕ) (c d : ℕ → Bool) → ((n : ℕ) → c n ≡ d n) → clobbers_text i c ≡ clobbers_text i d
-clobbers_as i c d e =
-    ap (λ (t : List ℕ). (codes "inst " ++ (decimal i ++ codes " clobbers")) ++ (t ++ newline)) (members_as c d e 192)

@@ -1,6 +1,6 @@
 -- A range table that is used alone: what each call answers, and what it leaves.
 use Rattle.std.specs.Prelude.{ℕ, cond, List, ◌++◌, Some, None, Ok, Err, codes, decimal, Option, Result, nat_lt}
-use Rattle.faults.specs.Faults.{fault_number, fault_place}
+use Rattle.faults.specs.Faults.{fault_text}
 use Rattle.faults.specs.declared.fault.Fault.{Fault}
 use Rattle.faults.specs.declared.fault.Fault.TheVariants.{OutOfRange}
 use Rattle.ranges.specs.Spans.{Spans, count, end_fault, index_reversed, range_of, target_fault, target_reversed, with_end}
@@ -37,7 +37,7 @@ abbrev pub ok_text : List ℕ
 ok_text = codes "ok" ++ newline
 
 abbrev pub refused_text : Fault → List ℕ
-refused_text f = codes "refused " ++ (decimal (fault_number f) ++ (codes " " ++ (decimal (fault_place f) ++ newline)))
+refused_text f = codes "refused " ++ (fault_text f ++ newline)
 
 abbrev pub done_text : Result (Unit {0}) Fault → List ℕ
 done_text (Ok u) = ok_text

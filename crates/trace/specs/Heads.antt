@@ -2,8 +2,8 @@
 use Rattle.std.specs.Prelude.{◌≡◌, ℕ, cond, List, [], ◌∷◌, Some, None, Ok, Err, vec_items, codes, Option, Result, Vec, nat_lt}
 use Rattle.faults.specs.declared.fault.Fault.{Fault}
 use Rattle.faults.specs.declared.fault.Fault.TheVariants.{Full}
+use Rattle.faults.specs.declared.lengths.Lengths.{Lengths}
 use Rattle.faults.specs.declared.table_id.TableId.TheVariants.{Registers}
-use Rattle.trace.specs.declared.head.Lengths.{Lengths}
 use Rattle.trace.specs.declared.head.Set.{Set}
 use Rattle.trace.specs.declared.head.Set.TheVariants as set
 use Rattle.trace.specs.declared.head.Wrapper.{Wrapper}
@@ -89,37 +89,35 @@ wrapping_of (Charged ∷ Fenced ∷ x ∷ xs) = None
 wrapping_of (Fenced ∷ Charged ∷ x ∷ xs) = None
 wrapping_of (Fenced ∷ Fenced ∷ x ∷ xs) = None
 
--- five lengths
-abbrev pub reads_five : List (List ℕ) → Read (ℕ × ℕ × ℕ × ℕ × ℕ)
-reads_five ws =
-    then (reads_number 64 ws) (λ a ws.
-    then (reads_number 64 ws) (λ b ws.
-    then (reads_number 64 ws) (λ c ws.
-    then (reads_number 64 ws) (λ d ws.
-    then (reads_number 64 ws) (λ e ws.
-    Ok ((a, b, c, d, e), ws))))))
-
 -- the lengths of tables 0 to 9
 abbrev pub reads_lengths : List (List ℕ) → Read Lengths
 reads_lengths ws =
-    then (reads_five ws) (λ low ws.
-    then (reads_five ws) (λ high ws.
+    then (reads_number 64 ws) (λ registers ws.
+    then (reads_number 64 ws) (λ insts ws.
+    then (reads_number 64 ws) (λ blocks ws.
+    then (reads_number 64 ws) (λ succs ws.
+    then (reads_number 64 ws) (λ branch_args ws.
+    then (reads_number 64 ws) (λ block_params ws.
+    then (reads_number 64 ws) (λ labels ws.
+    then (reads_number 64 ws) (λ operands ws.
+    then (reads_number 64 ws) (λ preds ws.
+    then (reads_number 64 ws) (λ built_labels ws.
     then (reads_end ws) (λ u ws.
     Ok (
       record {
-        registers = low.0;
-        insts = low.1;
-        blocks = low.2;
-        succs = low.3;
-        branch_args = low.4;
-        block_params = high.0;
-        labels = high.1;
-        operands = high.2;
-        preds = high.3;
-        built_labels = high.4;
+        registers = registers;
+        insts = insts;
+        blocks = blocks;
+        succs = succs;
+        branch_args = branch_args;
+        block_params = block_params;
+        labels = labels;
+        operands = operands;
+        preds = preds;
+        built_labels = built_labels;
       },
       ws,
-    ))))
+    ))))))))))))
 
 -- a register table under 192 is refused
 abbrev pub new_fault : Lengths → Option Fault

@@ -1,6 +1,6 @@
 -- How a script writes an instruction: its name and its numbers, and for each wrapper, the innermost first, a `+` and its
 -- own numbers.
-use Rattle.std.specs.Prelude.{◌≡◌, ℕ, cond, List, Ok, Err, codes, Result}
+use Rattle.std.specs.Prelude.{ℕ, cond, List, [], ◌∷◌, Ok, Err, codes}
 use Rattle.machinst.specs.Meaning.{Meaning}
 use Rattle.regs.specs.Sets.{member}
 use Rattle.regs.specs.declared.preg_set.PRegSet.{PRegSet}
@@ -12,10 +12,8 @@ use Rattle.set_p.specs.declared.P.TheVariants.{Imm, Add, Move, Call, TailCall, R
 use Rattle.set_q.specs.MeaningQ.{meaning_q}
 use Rattle.set_q.specs.declared.Q.{Q}
 use Rattle.std.specs.Str.{bytes_eq}
-use Rattle.trace.specs.Readers.{Read, left, reads_number, reads_this, reads_word, then}
-use Rattle.trace.specs.declared.reason.Reason.{Reason}
+use Rattle.trace.specs.Readers.{Read, reads_number, reads_this, reads_word, then}
 use Rattle.trace.specs.declared.reason.Reason.TheVariants.{UnknownWord}
-use Rattle.trace.specs.declared.words.Words.{Words}
 use Rattle.wrappers.specs.Wrapped.{charged_by, fenced_by}
 
 abbrev pub reads_reg : List (List ℕ) → Read Reg
@@ -28,7 +26,7 @@ reads_written ws = then (reads_reg ws) (λ r ws. Ok (record { reg = r }, ws))
 abbrev pub reads_set : List (List ℕ) → Read PRegSet
 reads_set ws =
     then (reads_number 64 ws)
-    (λ w0 ws. then (reads_number 64 ws) (λ w1 ws. then (reads_number 64 ws) (λ w2 ws. Ok (record { w0 = w0; w1 = w1; w2 = w2 }, ws))))
+    (λ w0 ws. then (reads_number 64 ws) (λ w1 ws. then (reads_number 64 ws) (λ w2 ws. Ok (record { bits = w0 ∷ w1 ∷ w2 ∷ [] }, ws))))
 
 abbrev pub reads_q : List (List ℕ) → Read Q
 reads_q ws =
@@ -38,7 +36,7 @@ reads_q ws =
     (λ w0 ws. then (reads_reg ws)
     (λ w1 ws. then (reads_reg ws)
     (λ w2 ws. then (reads_number 32 ws)
-    (λ number ws. Ok (record { opcode = opcode; w0 = w0; w1 = w1; w2 = w2; number = number }, ws)))))))
+    (λ number ws. Ok (record { opcode = opcode; words = w0 ∷ w1 ∷ w2 ∷ []; number = number }, ws)))))))
 
 abbrev pub reads_imm : List (List ℕ) → Read P
 reads_imm ws = then (reads_written ws) (λ d ws. then (reads_number 32 ws) (λ value ws. Ok (Imm d value, ws)))
@@ -55,22 +53,19 @@ reads_pair make ws = then (reads_reg ws) (λ a ws. then (reads_written ws) (λ d
 abbrev pub reads_one : (Reg → P) → List (List ℕ) → Read P
 reads_one make ws = then (reads_reg ws) (λ a ws. Ok (make a, ws))
 
--- the instructions of set P that have at most one register, from the name and what follows
-abbrev pub named_short : List ℕ → List (List ℕ) → Read P
-named_short name ws =
-    cond (bytes_eq name (codes "TailCall")) (reads_one TailCall ws)
-    (cond (bytes_eq name (codes "Ret")) (reads_one Ret ws)
-    (cond (bytes_eq name (codes "Branch")) (reads_one Branch ws)
-    (cond (bytes_eq name (codes "Jump")) (Ok (Jump, ws))
-    (cond (bytes_eq name (codes "Trap")) (Ok (Trap, ws)) (cond (bytes_eq name (codes "Skip")) (Ok (Skip, ws)) (Err UnknownWord))))))
-
 -- an instruction of set P, from its name and what follows
 abbrev pub named_p : List ℕ → List (List ℕ) → Read P
 named_p name ws =
     cond (bytes_eq name (codes "Imm")) (reads_imm ws)
     (cond (bytes_eq name (codes "Add")) (reads_add ws)
     (cond (bytes_eq name (codes "Move")) (reads_pair Move ws)
-    (cond (bytes_eq name (codes "Call")) (reads_pair Call ws) (named_short name ws))))
+    (cond (bytes_eq name (codes "Call")) (reads_pair Call ws)
+    (cond (bytes_eq name (codes "TailCall")) (reads_one TailCall ws)
+    (cond (bytes_eq name (codes "Ret")) (reads_one Ret ws)
+    (cond (bytes_eq name (codes "Branch")) (reads_one Branch ws)
+    (cond (bytes_eq name (codes "Jump")) (Ok (Jump, ws))
+    (cond (bytes_eq name (codes "Trap")) (Ok (Trap, ws))
+    (cond (bytes_eq name (codes "Skip")) (Ok (Skip, ws)) (Err UnknownWord))))))))))
 
 abbrev pub reads_p : List (List ℕ) → Read P
 reads_p ws = then (reads_word ws) named_p
@@ -96,8 +91,3 @@ abbrev pub reads_fenced : Reader → Reader
 reads_fenced below ws =
     then (below ws)
     (λ m ws. then (reads_this (codes "+") ws) (λ u ws. then (reads_set ws) (λ fence ws. Ok (fenced_by (member fence) m, ws))))
-
--- an instruction that was read means what its words write
-abbrev pub Means : {I : Type 0} → Reader → (I → Meaning) → Words → Result I Reason → Words → Type 0
-Means reads meaning before (Ok inst) after = reads (left before) ≡ Ok (meaning inst, left after)
-Means reads meaning before (Err e) after = reads (left before) ≡ Err e

@@ -3,9 +3,8 @@ use Rattle.std.specs.Prelude.{◌≡◌, ℕ, ◌^◌, cond, List, [], ◌∷◌
 use Rattle.std.specs.Str.{bytes_eq}
 use Rattle.trace.specs.declared.reason.Reason.{Reason}
 use Rattle.trace.specs.declared.reason.Reason.TheVariants.{TooFewWords, TooManyWords, UnknownWord}
-use Rattle.trace.specs.declared.lines.Lines.{Lines}
 use Rattle.trace.specs.declared.words.Words.{Words}
-use Rattle.trace.specs.Lines.{lines_of, words_of}
+use Rattle.trace.specs.Lines.{words_of}
 use Rattle.trace.specs.Numbers.{read_number}
 
 -- the words that a cursor has left to read
@@ -13,17 +12,17 @@ abbrev pub left : Words → List (List ℕ)
 left w = words_of w.rest.now
 
 -- a value with the words after it, or the reason why there is none
--- the lines that a cursor has left to read
-abbrev pub lines_left : Lines → List (List ℕ)
-lines_left l = cond l.done [] (lines_of l.rest.now)
-
 abbrev pub Read : Type 0 → Type 0
 Read A = Result (A × List (List ℕ)) Reason
 
--- a cursor that is read so goes from `before` to `after`, and answers the value or the reason
+-- a cursor that is read so goes from `before` to `after`, and answers a value of which `view` is read, or the reason
+abbrev pub GivesBy : {A B : Type 0} → (B → A) → (List (List ℕ) → Read A) → Words → Result B Reason → Words → Type 0
+GivesBy view reads before (Ok b) after = reads (left before) ≡ Ok (view b, left after)
+GivesBy view reads before (Err e) after = reads (left before) ≡ Err e
+
+-- the same, where the value itself is read
 abbrev pub Gives : {A : Type 0} → (List (List ℕ) → Read A) → Words → Result A Reason → Words → Type 0
-Gives reads before (Ok a) after = reads (left before) ≡ Ok (a, left after)
-Gives reads before (Err e) after = reads (left before) ≡ Err e
+Gives = GivesBy (λ a. a)
 
 -- reads on after a value, with what is left
 abbrev pub then : {A B : Type 0} → Read A → (A → List (List ℕ) → Read B) → Read B
@@ -40,14 +39,10 @@ abbrev pub reads_word : List (List ℕ) → Read (List ℕ)
 reads_word [] = Err TooFewWords
 reads_word (w ∷ ws) = Ok (w, ws)
 
--- a number below the limit
-abbrev pub reads_under : ℕ → List (List ℕ) → Read ℕ
-reads_under limit [] = Err TooFewWords
-reads_under limit (w ∷ ws) = with_rest ws (read_number limit w)
-
 -- a number of so many bits
 abbrev pub reads_number : ℕ → List (List ℕ) → Read ℕ
-reads_number bits ws = reads_under (2 ^ bits) ws
+reads_number bits [] = Err TooFewWords
+reads_number bits (w ∷ ws) = with_rest ws (read_number (2 ^ bits) w)
 
 -- this very word
 abbrev pub reads_this : List ℕ → List (List ℕ) → Read (Unit {0})

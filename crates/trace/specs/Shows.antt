@@ -11,14 +11,10 @@ use Rattle.trace.specs.declared.stop.Stop.TheVariants.{Line, Memory}
 use Rattle.std.specs.declared.alloc.Global.{Global}
 use Rattle.trace.specs.Readers.{Read, reads_end, reads_this, then}
 use Rattle.trace.specs.declared.reason.Reason.{Reason}
-use Rattle.trace.specs.Insts.{Reader, bare_p, bare_q, reads_charged, reads_reg, reads_set}
+use Rattle.trace.specs.Insts.{Reader, bare_p, bare_q, reads_reg, reads_set}
 use Rattle.trace.specs.Shown.{shown_text}
 use Rattle.machinst.specs.Layers.{Layer, Under, charge, fence}
 use Rattle.wrappers.specs.Wrapped.{wrapped}
-
--- an instruction that is charged three times
-abbrev pub nested_thrice : Reader → Reader
-nested_thrice below = reads_charged (reads_charged (reads_charged below))
 
 -- what is read where nothing is left
 abbrev pub value : {A : Type 0} → Read A → Result A Reason

@@ -4,18 +4,20 @@ use Rattle.faults.specs.TableIds.{capacity_of}
 use Rattle.faults.specs.declared.fault.Fault.{Fault}
 use Rattle.faults.specs.declared.table_id.TableId.TheVariants.{Ranges as OfRanges}
 use Rattle.machinst.specs.Meaning.{Meaning}
-use Rattle.ranges.specs.Spans.{Spans, no_spans, spans}
+use Rattle.ranges.specs.Spans.{Spans, no_spans}
 use Rattle.trace.specs.Alone.{after_call, call_text, reads_call, refused_text}
 use Rattle.trace.specs.Heads.{new_fault, reads_lengths, reads_set, wrappers_of, wrapping_list, wrapping_of}
 use Rattle.trace.specs.Shows.{Writes, bare_reader, layered, value}
 use Rattle.trace.specs.declared.head.Set.{Set}
 use Rattle.trace.specs.declared.head.Wrapping.{Wrapping}
 use Rattle.trace.specs.declared.head.Wrapping.TheVariants.{Bare}
+use Rattle.trace.specs.declared.request.Request.{Request}
 use Rattle.trace.specs.declared.stage.Stage.{Stage}
 use Rattle.trace.specs.declared.stage.Stage.TheVariants as stage
 use Rattle.trace.specs.declared.stop.Stop.{Stop}
 use Rattle.trace.specs.declared.stop.Stop.TheVariants.{Line, Memory}
 use Rattle.std.specs.declared.alloc.Global.{Global}
+use Rattle.std.specs.Option.{unwrap_or}
 use Rattle.std.specs.Str.{bytes_eq}
 use Rattle.trace.specs.Readers.{Read, reads_end, reads_number, reads_word, then}
 use Rattle.trace.specs.declared.reason.Reason.{Reason}
@@ -34,9 +36,9 @@ pub data Place : Type 0 where
 
 abbrev pub place_of : Stage → Place
 place_of stage.Start = start
-place_of (stage.Head s w) = head s w
+place_of (stage.Head h) = head h.set h.wrapping
 place_of stage.Function = function
-place_of (stage.Alone r) = alone (spans r)
+place_of (stage.Alone r) = alone r
 place_of stage.Over = over
 
 -- What a line is answered: nothing, a text, or what an instruction means.
@@ -87,8 +89,7 @@ wrap_once s (Some w) ws = Err NotHere
 
 -- no wrappers where none were named
 abbrev pub chosen : Option Wrapping → Wrapping
-chosen None = Bare
-chosen (Some w) = w
+chosen w = unwrap_or w Bare
 
 abbrev pub show_step : Set → Option Wrapping → List (List ℕ) → Step
 show_step s w ws =
@@ -129,6 +130,10 @@ abbrev pub Takes : Step → Result Stage Stop → String Global → String Globa
 Takes s (Ok next) before after = (a : Answer) × (s ≡ Ok (place_of next, a)) × Written a before after
 Takes s (Err (Line e)) before after = (s ≡ Err e) × (after ≡ before)
 Takes s (Err Memory) before after = Unit {0}
+
+-- the answer goes on in the text of the request, which P relates to what it was before
+abbrev pub OnRequest : (String Global → String Global → Type 0) → Request → Request → Type 0
+OnRequest P before after = (after.out.ghost_name ≡ before.out.ghost_name) × P before.out.now after.out.now
 
 -- what a line does to where the script stands, and what is written
 abbrev pub Moves : Step → Result (Unit {0}) Stop → Place → Place → String Global → String Global → Type 0

@@ -1,13 +1,15 @@
 //! The head of a script: the set, the wrappers and the lengths of the tables.
 ghost use Rattle.std.specs.Prelude.{◌≡◌, Some, None, MatchResult};
-ghost use Rattle.trace.specs.Heads.{Lists, new_fault, reads_five, reads_lengths, reads_set, set_named, wrapper_named, wrappers_of, wrapping_of};
+ghost use Rattle.trace.specs.Heads.{Lists, new_fault, reads_lengths, reads_set, set_named, wrapper_named, wrappers_of, wrapping_of};
 ghost use Rattle.trace.specs.Readers.{Gives, left};
 
 use crate::reason::Reason;
 use crate::stop::Stop;
-use crate::words::{Words, is_word};
+use crate::words::Words;
 use faults::fault::Fault;
+use faults::lengths::Lengths;
 use faults::table_id::TableId;
+use regs::reg::PINNED_VREGS;
 use std::alloc::Global;
 
 /// An instruction set.
@@ -39,33 +41,17 @@ pub enum Wrapping {
     ChargedEight,
 }
 
-/// The length of each table that a function is built in.
-#[derive(Clone, Copy)]
-pub struct Lengths {
-    pub registers: u64,
-    pub insts: u64,
-    pub blocks: u64,
-    pub succs: u64,
-    pub branch_args: u64,
-    pub block_params: u64,
-    pub labels: u64,
-    pub operands: u64,
-    pub preds: u64,
-    pub built_labels: u64,
-}
+impl TryFrom<&[u8]> for Set {
+    type Error = Reason;
 
-/// How many registers are there before any is allocated: the physical ones.
-const PINNED_VREGS: u64 = 192;
+    ghost try_from_gives = { λ name r. r ≡ set_named name.now };
 
-fn set_name(word: &[u8]) -> Result<Set, Reason>
-    ensures { result ≡ set_named word.now }
-{
-    if is_word(word, b"P") {
-        Ok(Set::P)
-    } else if is_word(word, b"Q") {
-        Ok(Set::Q)
-    } else {
-        Err(Reason::UnknownWord)
+    fn try_from(name: &[u8]) -> Result<Set, Reason> {
+        match name {
+            b"P" => Ok(Set::P),
+            b"Q" => Ok(Set::Q),
+            _ => Err(Reason::UnknownWord),
+        }
     }
 }
 
@@ -73,20 +59,22 @@ fn set_name(word: &[u8]) -> Result<Set, Reason>
 pub(crate) fn read_set(words: &mut Words) -> Result<Set, Reason>
     ensures { Gives reads_set words.old result words.new }
 {
-    let set = set_name(words.word()?)?;
+    let set = Set::try_from(words.word()?)?;
     words.end()?;
     Ok(set)
 }
 
-fn wrapper_name(word: &[u8]) -> Result<Wrapper, Reason>
-    ensures { result ≡ wrapper_named word.now }
-{
-    if is_word(word, b"charged") {
-        Ok(Wrapper::Charged)
-    } else if is_word(word, b"fenced") {
-        Ok(Wrapper::Fenced)
-    } else {
-        Err(Reason::UnknownWord)
+impl TryFrom<&[u8]> for Wrapper {
+    type Error = Reason;
+
+    ghost try_from_gives = { λ name r. r ≡ wrapper_named name.now };
+
+    fn try_from(name: &[u8]) -> Result<Wrapper, Reason> {
+        match name {
+            b"charged" => Ok(Wrapper::Charged),
+            b"fenced" => Ok(Wrapper::Fenced),
+            _ => Err(Reason::UnknownWord),
+        }
     }
 }
 
@@ -95,15 +83,8 @@ pub(crate) fn read_wrappers(heap: Global, words: &mut Words) -> Result<Vec<Wrapp
     ensures { Lists (wrappers_of (left words.old)) result }
 {
     let mut wrappers = Vec::new(heap);
-    while let Some(word) = words.next_word() {
-        match wrapper_name(word) {
-            Err(reason) => return Err(Stop::Line(reason)),
-            Ok(wrapper) => {
-                if wrappers.push(wrapper).is_err() {
-                    return Err(Stop::Memory);
-                }
-            }
-        }
+    for word in words {
+        wrappers.push(Wrapper::try_from(word)?)?;
     }
     Ok(wrappers)
 }
@@ -131,38 +112,24 @@ impl Wrapping {
     }
 }
 
-type Five = (u64, u64, u64, u64, u64);
-
-fn read_five(words: &mut Words) -> Result<Five, Reason>
-    ensures { Gives reads_five words.old result words.new }
-{
-    let a = words.number64()?;
-    let b = words.number64()?;
-    let c = words.number64()?;
-    let d = words.number64()?;
-    let e = words.number64()?;
-    Ok((a, b, c, d, e))
-}
-
 /// Reads the lengths of the ten tables, and nothing after them.
 pub(crate) fn read_lengths(words: &mut Words) -> Result<Lengths, Reason>
     ensures { Gives reads_lengths words.old result words.new }
 {
-    let (registers, insts, blocks, succs, branch_args) = read_five(words)?;
-    let (block_params, labels, operands, preds, built_labels) = read_five(words)?;
+    let lengths = Lengths {
+        registers: words.number()?,
+        insts: words.number()?,
+        blocks: words.number()?,
+        succs: words.number()?,
+        branch_args: words.number()?,
+        block_params: words.number()?,
+        labels: words.number()?,
+        operands: words.number()?,
+        preds: words.number()?,
+        built_labels: words.number()?,
+    };
     words.end()?;
-    Ok(Lengths {
-        registers,
-        insts,
-        blocks,
-        succs,
-        branch_args,
-        block_params,
-        labels,
-        operands,
-        preds,
-        built_labels,
-    })
+    Ok(lengths)
 }
 
 /// Refuses a register table that has no room for the physical registers.

@@ -3,12 +3,11 @@
 
 mod alone;
 mod commands;
-mod cut;
 mod head;
-mod lines;
 mod number;
 mod read;
 mod reason;
+mod request;
 pub mod session;
 mod show;
 mod shows;

@@ -1,28 +1,84 @@
 //! Numbers as they are written in a script.
-ghost use Rattle.std.specs.Prelude.{◌≡◌, ◌+◌};
+ghost use Rattle.std.specs.Prelude.{◌≡◌, ℕ, ◌+◌, ◌*◌, ◌^◌, ◌<◌, ◌≤◌, Result, Ok, Err, MatchResult};
+ghost use Rattle.std.specs.Option.{SomeIff};
 ghost use Rattle.trace.specs.Numbers.{read_number};
+ghost use Rattle.std.proofs.Common.{rules};
 
 use crate::reason::Reason;
+use std::num::TryFromIntError;
 
-/// More than any `u64`: a number that is larger still counts as this one.
-const LIMIT: u128 = 1 << 64;
+/// An unsigned number that a script can write.
+pub trait Unsigned: TryFrom<u64, Error = TryFromIntError> {
+    // How many bits it has.
+    ghost bits: { ℕ };
 
-/// The number that the digits of `word` write, which has to be at most `max`.
-pub(crate) fn number(word: &[u8], max: u64) -> Result<u64, Reason>
-    ensures { result ≡ read_number (max + 1) word.now }
+    // The number that a value is.
+    ghost value: { Self → ℕ };
+
+    // It is made from the numbers of so many bits, at most 64, and from no others.
+    ghost holds: { (bits ≤ 64) × ((n : ℕ) (r : _) → Self.try_from_gives n r → MatchResult r (λ x. (n < 2 ^ bits) × (value x ≡ n)) (λ _. 2 ^ bits ≤ n)) };
+}
+
+impl Unsigned for u8 {
+    ghost bits = { 8 };
+
+    ghost value = { λ n. n };
+
+    ghost holds = { Prim.search rules };
+}
+
+impl Unsigned for u32 {
+    ghost bits = { 32 };
+
+    ghost value = { λ n. n };
+
+    ghost holds = { Prim.search rules };
+}
+
+impl Unsigned for u64 {
+    ghost bits = { 64 };
+
+    ghost value = { λ n. n };
+
+    ghost holds = { Prim.search rules };
+}
+
+impl Unsigned for usize {
+    ghost bits = { 64 };
+
+    ghost value = { λ n. n };
+
+    ghost holds = { Prim.search rules };
+}
+
+/// `n` with one more digit, if it still has at most 64 bits.
+fn with_digit(n: u64, digit: u8) -> Option<u64>
+    ensures { SomeIff result (n * 10 + digit < 2 ^ 64) (n * 10 + digit) }
+{
+    n.checked_mul(10)?.checked_add(u64::from(digit))
+}
+
+/// The number that the digits of `word` write, which has to have at most 64 bits.
+fn digits(word: &[u8]) -> Result<u64, Reason>
+    ensures { result ≡ read_number (2 ^ 64) word.now }
 {
     if word.is_empty() {
         return Err(Reason::NotANumber);
     }
-    let mut value: u128 = 0;
+    let mut value = Some(0);
     for b in word {
         if !b.is_ascii_digit() {
             return Err(Reason::NotANumber);
         }
-        value = (value * 10 + u128::from(*b - b'0')).min(LIMIT);
+        let digit = *b - b'0';
+        value = value.and_then(|n| with_digit(n, digit));
     }
-    if value > u128::from(max) {
-        return Err(Reason::TooWide);
-    }
-    Ok(value as u64)
+    value.ok_or(Reason::TooWide)
+}
+
+/// The number that the digits of `word` write, which `N` has to hold.
+pub(crate) fn number<N: Unsigned>(word: &[u8]) -> Result<N, Reason>
+    ensures { MatchResult result (λ n. read_number (2 ^ N.bits) word.now ≡ Ok (N.value n)) (λ e. read_number (2 ^ N.bits) word.now ≡ Err e) }
+{
+    N::try_from(digits(word)?).map_err(|_| Reason::TooWide)
 }

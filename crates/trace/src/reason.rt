@@ -1,6 +1,9 @@
 //! Why a line is refused.
+use std::error::Error;
+use std::fmt;
+
 /// Why a line is no command.
-#[derive(Clone, Copy)]
+#[derive(Clone, Copy, Debug)]
 pub enum Reason {
     TooFewWords,
     TooManyWords,
@@ -11,17 +14,20 @@ pub enum Reason {
     UnsupportedWrappers,
 }
 
-impl Reason {
-    /// The reason in words.
-    pub(crate) fn text(self) -> &'static str {
+impl fmt::Display for Reason {
+    fn fmt<W: fmt::Write>(&self, f: &mut fmt::Formatter<W>) -> fmt::Result {
         match self {
-            Reason::TooFewWords => "too few words",
-            Reason::TooManyWords => "too many words",
-            Reason::NotANumber => "not a number",
-            Reason::TooWide => "number too wide",
-            Reason::UnknownWord => "unknown word",
-            Reason::NotHere => "no command at this place",
-            Reason::UnsupportedWrappers => "a list of wrappers that is not supported yet",
+            Reason::TooFewWords => write!(f, "too few words"),
+            Reason::TooManyWords => write!(f, "too many words"),
+            Reason::NotANumber => write!(f, "not a number"),
+            Reason::TooWide => write!(f, "number too wide"),
+            Reason::UnknownWord => write!(f, "unknown word"),
+            Reason::NotHere => write!(f, "no command at this place"),
+            Reason::UnsupportedWrappers => {
+                write!(f, "a list of wrappers that is not supported yet")
+            }
         }
     }
 }
+
+impl Error for Reason {}

@@ -1,7 +1,7 @@
 //! The answer to `show`: what an instruction means.
 ghost use Rattle.std.specs.Prelude.{◌≡◌};
 ghost use Rattle.trace.specs.Heads.{wrapping_list};
-ghost use Rattle.trace.specs.Shows.{ShowsBy, ShowsUnder, bare_reader, nested_thrice};
+ghost use Rattle.trace.specs.Shows.{ShowsBy, ShowsUnder, bare_reader};
 ghost use Rattle.trace.specs.Readers.{left};
 
 use crate::head::{Set, Wrapping};
@@ -19,33 +19,17 @@ use wrappers::fenced::Fenced;
 fn show_as<I: ReadInst + Drop>(words: &mut Words, out: &mut String) -> Result<(), Stop>
     ensures { ShowsBy I.ReadInst.reads (left words.old) result out.old out.new }
 {
-    let inst = match I::read(words) {
-        Ok(inst) => inst,
-        Err(reason) => return Err(Stop::Line(reason)),
-    };
-    if let Err(reason) = words.end() {
-        return Err(Stop::Line(reason));
-    }
-    match write_meaning(out, &inst) {
-        Ok(()) => Ok(()),
-        Err(_) => Err(Stop::Memory),
-    }
+    let inst = I::read(words)?;
+    words.end()?;
+    write_meaning(out, &inst)?;
+    Ok(())
 }
 
-// The same under `Charged` three times, and six times.
-fn show_three<I: ReadInst + Copy>(words: &mut Words, out: &mut String) -> Result<(), Stop>
-    ensures { ShowsBy (nested_thrice I.ReadInst.reads) (left words.old) result out.old out.new }
-{
-    show_as::<Charged<Charged<Charged<I>>>>(words, out)
-}
+// An instruction that is charged three times.
+type Thrice<I> = Charged<Charged<Charged<I>>>;
 
-fn show_six<I: ReadInst + Copy>(words: &mut Words, out: &mut String) -> Result<(), Stop>
-    ensures { ShowsBy (nested_thrice (nested_thrice I.ReadInst.reads)) (left words.old) result out.old out.new }
-{
-    show_three::<Charged<Charged<Charged<I>>>>(words, out)
-}
-
-// The same of a bare instruction of this type under wrappers.
+// The same of a bare instruction of this type under wrappers. Each wrapping is an instruction type of its own.
+#[tactic(auto, using(crate::proofs::Nested::shows_at))]
 fn show_under<B: ReadInst + Copy>(
     wrapping: Wrapping,
     words: &mut Words,
@@ -61,9 +45,9 @@ fn show_under<B: ReadInst + Copy>(
         Wrapping::ChargedFenced => show_as::<Fenced<Charged<B>>>(words, out),
         Wrapping::FencedCharged => show_as::<Charged<Fenced<B>>>(words, out),
         Wrapping::FencedTwice => show_as::<Fenced<Fenced<B>>>(words, out),
-        Wrapping::ChargedSix => show_six::<B>(words, out),
-        Wrapping::ChargedSeven => show_six::<Charged<B>>(words, out),
-        Wrapping::ChargedEight => show_six::<Charged<Charged<B>>>(words, out),
+        Wrapping::ChargedSix => show_as::<Thrice<Thrice<B>>>(words, out),
+        Wrapping::ChargedSeven => show_as::<Thrice<Thrice<Charged<B>>>>(words, out),
+        Wrapping::ChargedEight => show_as::<Thrice<Thrice<Charged<Charged<B>>>>>(words, out),
     }
 }
 

@@ -2,13 +2,13 @@
 -- instructions' meanings, the registers of each type and the tables' lengths, and nothing else.
 use Rattle.std.specs.Prelude.{ℕ, ◌+◌, cond, List, [], ◌∷◌, ◌++◌, length, Some, None, Option, ◌==◌, nat_le, nat_lt}
 use Rattle.faults.specs.declared.fault.Fault.{Fault}
-use Rattle.faults.specs.declared.fault.Fault.TheVariants.{Full, UnknownReg}
+use Rattle.faults.specs.declared.fault.Fault.TheVariants.{Full}
 use Rattle.faults.specs.declared.table_id.TableId.{TableId}
 use Rattle.faults.specs.declared.table_id.TableId.TheVariants.{Registers, Insts, Blocks, Succs, BranchArgs, BlockParams, Labels}
 use Rattle.machinst.specs.Meaning.{Meaning}
 use Rattle.machinst.specs.Parts.{Parts}
 use Rattle.std.specs.List.{flat_map}
-use Rattle.vregs.specs.Files.{File, alias_fault, alloc_fault, allocated, count, known, new_file, new_words, or_else, parts_of, unless, with_alias, with_regs}
+use Rattle.vregs.specs.Files.{File, alias_fault, alloc_fault, count, new_file, new_words, or_else, parts_of, unallocated_fault, unknown_fault, unless, with_alias, with_regs}
 use Rattle.vregs.specs.Insts.{first_unknown, inst_fault}
 
 -- A successor: the block that it names, and its arguments in the order given.
@@ -104,13 +104,13 @@ abbrev pub record_fault : ℕ → ℕ → List Label → Option Fault
 record_fault limit n rs = cond (n == 0) None (full (length rs) limit Labels)
 
 abbrev pub with_inst : Listing → Meaning → Listing
-with_inst k m = record { closed = k.closed; unclosed = record { insts = m ∷ k.unclosed.insts; succs = k.unclosed.succs; params = k.unclosed.params } }
+with_inst k m = record k { unclosed = record (k.unclosed) { insts = m ∷ k.unclosed.insts } }
 
 abbrev pub with_succ : Listing → ℕ → List ℕ → Listing
-with_succ k b args = record { closed = k.closed; unclosed = record { insts = k.unclosed.insts; succs = record { block = b; args = args } ∷ k.unclosed.succs; params = k.unclosed.params } }
+with_succ k b args = record k { unclosed = record (k.unclosed) { succs = record { block = b; args = args } ∷ k.unclosed.succs } }
 
 abbrev pub with_param : Listing → ℕ → Listing
-with_param k w = record { closed = k.closed; unclosed = record { insts = k.unclosed.insts; succs = k.unclosed.succs; params = w ∷ k.unclosed.params } }
+with_param k w = record k { unclosed = record (k.unclosed) { params = w ∷ k.unclosed.params } }
 
 abbrev pub with_closed : Listing → Listing
 with_closed k = record { closed = k.unclosed ∷ k.closed; unclosed = empty_block }
@@ -155,23 +155,23 @@ module _ (parts : ℕ → Option Parts) (L : Limits) where
   fault k (alias from to) = alias_fault k.file from to
   fault k (push m) = or_else (inst_fault (count k.file.regs) m) (inst_room L k.listing)
   fault k (succ b args) = or_else (first_unknown (count k.file.regs) 0 args) (succ_room L (all_succs k.listing) args)
-  fault k (param w) = or_else (unless (allocated k.file.regs w) (UnknownReg 0)) (param_room L k.listing)
+  fault k (param w) = or_else (unallocated_fault k.file.regs w 0) (param_room L k.listing)
   fault k (label w l) =
-      or_else (unless (known (count k.file.regs) w) (UnknownReg 0))
+      or_else (unknown_fault (count k.file.regs) w 0)
       (record_fault L.labels (length (all_insts k.listing)) k.labels)
   fault k close = block_room L k.listing.closed
   fault k (entry b) = None
 
   -- the book after a call that no fault refuses
   abbrev pub accept : Book → Call → Book
-  accept k (alloc ty) = record { file = with_regs k.file (parts_of (parts ty)); listing = k.listing; labels = k.labels; entry = k.entry }
-  accept k (alias from to) = record { file = with_alias k.file from to; listing = k.listing; labels = k.labels; entry = k.entry }
-  accept k (push m) = record { file = k.file; listing = with_inst k.listing m; labels = k.labels; entry = k.entry }
-  accept k (succ b args) = record { file = k.file; listing = with_succ k.listing b args; labels = k.labels; entry = k.entry }
-  accept k (param w) = record { file = k.file; listing = with_param k.listing w; labels = k.labels; entry = k.entry }
-  accept k (label w l) = record { file = k.file; listing = k.listing; labels = with_label k.labels (length (all_insts k.listing)) w l; entry = k.entry }
-  accept k close = record { file = k.file; listing = with_closed k.listing; labels = k.labels; entry = k.entry }
-  accept k (entry b) = record { file = k.file; listing = k.listing; labels = k.labels; entry = b }
+  accept k (alloc ty) = record k { file = with_regs k.file (parts_of (parts ty)) }
+  accept k (alias from to) = record k { file = with_alias k.file from to }
+  accept k (push m) = record k { listing = with_inst k.listing m }
+  accept k (succ b args) = record k { listing = with_succ k.listing b args }
+  accept k (param w) = record k { listing = with_param k.listing w }
+  accept k (label w l) = record k { labels = with_label k.labels (length (all_insts k.listing)) w l }
+  accept k close = record k { listing = with_closed k.listing }
+  accept k (entry b) = record k { entry = b }
 
   -- what an accepted call is answered
   abbrev pub granted : Book → Call → Answer

@@ -1,12 +1,10 @@
 -- The capacities of the tables.
 use Rattle.std.specs.Prelude.{◌≡◌}
 use Rattle.faults.specs.TableIds.{capacity_of}
+use Rattle.faults.specs.declared.lengths.Lengths.{Lengths}
 use Rattle.faults.specs.declared.table_id.TableId.TheVariants as table
-use Rattle.ranges.specs.Spans.{spans}
-use Rattle.tables.specs.Tables.{bound}
 use Rattle.vcode.specs.Book.{Limits}
 use Rattle.vcode.specs.declared.code.Code.{Code}
-use Rattle.vcode.specs.declared.lengths.Lengths.{Lengths}
 use Rattle.vcode.specs.declared.function_tables.OutputTables.{OutputTables}
 use Rattle.vcode.specs.declared.function_tables.Tables.{Tables}
 use Rattle.vregs.specs.Entries.{limit_of}
@@ -29,29 +27,29 @@ capacities l = record {
 module _ {I : Type 0} where
   -- the tables of the code have these capacities
   pub record CodeLimits (c : Code I) (L : Limits) : Type 0 where
-    pub insts : L.insts ≡ bound c.insts
-    pub blocks : L.blocks ≡ (spans c.ranges.insts).most
-    pub succs : L.succs ≡ bound c.succs.blocks
-    pub args : L.args ≡ bound c.succs.args
-    pub params : L.params ≡ bound c.params
+    pub insts : L.insts ≡ c.insts.limit
+    pub blocks : L.blocks ≡ c.ranges.insts.most
+    pub succs : L.succs ≡ c.succs.blocks.limit
+    pub args : L.args ≡ c.succs.args.limit
+    pub params : L.params ≡ c.params.limit
 
   -- the capacities that tables have
   abbrev pub limits_of : Tables I → Limits
   limits_of t = record {
     regs = limit_of t.vregs;
-    insts = bound t.code.insts;
-    blocks = (spans t.code.ranges.insts).most;
-    succs = bound t.code.succs.blocks;
-    args = bound t.code.succs.args;
-    params = bound t.code.params;
-    labels = bound t.labels.records;
-    operands = bound t.output.operands;
-    preds = bound t.output.preds;
-    built_labels = bound t.output.labels;
+    insts = t.code.insts.limit;
+    blocks = t.code.ranges.insts.most;
+    succs = t.code.succs.blocks.limit;
+    args = t.code.succs.args.limit;
+    params = t.code.params.limit;
+    labels = t.labels.records.limit;
+    operands = t.output.operands.limit;
+    preds = t.output.preds.limit;
+    built_labels = t.output.labels.limit;
   }
 
 -- the tables that building fills have these capacities
 pub record OutputLimits (o : OutputTables) (L : Limits) : Type 0 where
-  pub operands : L.operands ≡ bound o.operands
-  pub preds : L.preds ≡ bound o.preds
-  pub labels : L.built_labels ≡ bound o.labels
+  pub operands : L.operands ≡ o.operands.limit
+  pub preds : L.preds ≡ o.preds.limit
+  pub labels : L.built_labels ≡ o.labels.limit

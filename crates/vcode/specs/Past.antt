@@ -12,43 +12,45 @@ use Rattle.vcode.specs.Book.Call.{alias, alloc, close, entry, label, param, push
 use Rattle.vcode.specs.Held.{CodeHeld, LabelsHeld, OutputHeld}
 use Rattle.vcode.specs.Made.{limits_of}
 use Rattle.vcode.specs.declared.builder.VCodeBuilder.{VCodeBuilder}
-use Rattle.vcode.specs.declared.call.Answer.{Answer as Said}
-use Rattle.vcode.specs.declared.call.Answer.TheVariants as say
 use Rattle.vcode.specs.declared.call.Call.{Call as Made}
 use Rattle.vcode.specs.declared.call.Call.TheVariants as make
 use Rattle.vcode.specs.declared.function_tables.Tables.{Tables}
 use Rattle.vregs.specs.Entries.{Filed, limit_of, word_of}
 
+-- what a call was answered: its fault, or what its value says
+abbrev pub told : {X : Type 0} → (X → Answer) → Result X Fault → Answer
+told says (Ok x) = says x
+told says (Err f) = refused f
+
+abbrev pub words_in : ValueRegs Reg → Answer
+words_in v = words (map word_of (value_regs v))
+
+-- the words of the registers, where there are any
+abbrev pub words_if : Option (ValueRegs Reg) → Answer
+words_if None = done
+words_if (Some v) = words_in v
+
 -- what a call without words was answered
 abbrev pub done_by : Result (Unit {0}) Fault → Answer
-done_by (Ok u) = done
-done_by (Err f) = refused f
+done_by r = told (λ _. done) r
 
 -- what an allocation was answered
 abbrev pub words_by : Result (ValueRegs Reg) Fault → Answer
-words_by (Ok v) = words (map word_of (value_regs v))
-words_by (Err f) = refused f
+words_by r = told words_in r
 
-abbrev pub heard : Said → Answer
-heard say.Done = done
-heard (say.Regs v) = words (map word_of (value_regs v))
-heard (say.Refused f) = refused f
-
--- a call that was refused leaves the builder equal to what it was
-abbrev pub Spared : {I : Type 0} → Answer → VCodeBuilder I → VCodeBuilder I → Type 0
-Spared done before now = Unit {0}
-Spared (words ws) before now = Unit {0}
-Spared (refused f) before now = now ≡ before
+-- what a call was answered that may be an allocation
+abbrev pub heard : Result (Option (ValueRegs Reg)) Fault → Answer
+heard r = told words_if r
 
 module _ {I : Type 0} (meaning : I → Meaning) (parts : ℕ → Option Parts) where
   -- the builder's tables are the book's
   pub record Holds (b : VCodeBuilder I) (L : Limits) (k : Book) : Type 0 where
-    pub file : Filed b.vregs k.file
-    pub code : CodeHeld meaning b.code L k.listing
-    pub labels : LabelsHeld b.labels L.labels k.labels
-    pub output : OutputHeld b.output L
+    pub file : Filed b.tables.vregs k.file
+    pub code : CodeHeld meaning b.tables.code L k.listing
+    pub labels : LabelsHeld b.tables.labels L.labels k.labels
+    pub output : OutputHeld b.tables.output L
     pub entry : b.entry.0 ≡ k.entry
-    pub most_regs : limit_of b.vregs ≡ L.regs
+    pub most_regs : limit_of b.tables.vregs ≡ L.regs
 
   -- b holds what these calls, the last one first, leave on a new builder in tables of these capacities
   abbrev pub Reached : VCodeBuilder I → Limits → List Call → Type 0

@@ -6,23 +6,17 @@ ghost use Rattle.vcode.specs.Past.{Answers, Reached, Started, done_by, words_by}
 ghost use Rattle.vregs.specs.Entries.{word_of};
 ghost use Rattle.vregs.specs.Files.{RootRule};
 
-use crate::code::Code;
-use crate::function_tables::{OutputTables, Tables};
+use crate::function_tables::Tables;
 use crate::index::{BlockIndex, ValueLabel};
-use crate::labels::ValueLabels;
 use faults::fault::Fault;
 use machinst::inst::MachInst;
 use regs::reg::{Reg, Type};
 use regs::value_regs::ValueRegs;
-use vregs::vregs::VRegAllocator;
 
 /// Builds a function, from its last instruction to its first.
 #[derive(Drop)]
 pub struct VCodeBuilder<I> {
-    vregs: VRegAllocator,
-    code: Code<I>,
-    labels: ValueLabels,
-    output: OutputTables,
+    tables: Tables<I>,
     entry: BlockIndex,
 }
 
@@ -39,17 +33,8 @@ impl<I: MachInst + Drop> VCodeBuilder<I> {
         tables.code.clear();
         tables.labels.clear();
         tables.output.clear();
-        let Tables {
-            vregs,
-            code,
-            labels,
-            output,
-        } = tables;
         Ok(VCodeBuilder {
-            vregs,
-            code,
-            labels,
-            output,
+            tables,
             entry: BlockIndex(0),
         })
     }
@@ -59,7 +44,7 @@ impl<I: MachInst + Drop> VCodeBuilder<I> {
         ensures answer { Answers I.meaning I.parts self.old self.new (alloc ty.0) (words_by result) }
         ensures unchanged { OnErr result (self.new ≡ self.old) }
     {
-        self.vregs.alloc::<I>(ty)
+        self.tables.vregs.alloc::<I>(ty)
     }
 
     /// Makes `from` an alias of the root of `to`.
@@ -68,7 +53,7 @@ impl<I: MachInst + Drop> VCodeBuilder<I> {
         ensures unchanged { OnErr result (self.new ≡ self.old) }
         ensures rule { (L : Limits) (past : List Call) → Reached I.meaning I.parts self.old L past → RootRule (after I.parts L past).file }
     {
-        self.vregs.set_vreg_alias(from, to)
+        self.tables.vregs.set_vreg_alias(from, to)
     }
 
     /// Adds an instruction in front of those that were pushed before.
@@ -76,8 +61,8 @@ impl<I: MachInst + Drop> VCodeBuilder<I> {
         ensures answer { Answers I.meaning I.parts self.old self.new (push (I.meaning inst)) (done_by result) }
         ensures unchanged { OnErr result (self.new ≡ self.old) }
     {
-        self.vregs.check_inst(&inst)?;
-        self.code.push(inst)
+        self.tables.vregs.check_inst(&inst)?;
+        self.tables.code.push(inst)
     }
 
     /// Adds a successor of the block that is being built, with the arguments for its parameters.
@@ -85,8 +70,8 @@ impl<I: MachInst + Drop> VCodeBuilder<I> {
         ensures answer { Answers I.meaning I.parts self.old self.new (succ block.0 (map word_of args.now)) (done_by result) }
         ensures unchanged { OnErr result (self.new ≡ self.old) }
     {
-        self.vregs.check_all_known(args)?;
-        self.code.add_succ(block, args)
+        self.tables.vregs.check_all_known(args)?;
+        self.tables.code.add_succ(block, args)
     }
 
     /// Adds a parameter of the block that is being built.
@@ -94,8 +79,8 @@ impl<I: MachInst + Drop> VCodeBuilder<I> {
         ensures answer { Answers I.meaning I.parts self.old self.new (takes param.0) (done_by result) }
         ensures unchanged { OnErr result (self.new ≡ self.old) }
     {
-        self.vregs.check_allocated(param, 0)?;
-        self.code.add_block_param(param)
+        self.tables.vregs.check_allocated(param, 0)?;
+        self.tables.code.add_block_param(param)
     }
 
     /// Records that `reg` holds the value of a label from the label's last record to here; nothing before the first
@@ -104,8 +89,10 @@ impl<I: MachInst + Drop> VCodeBuilder<I> {
         ensures answer { Answers I.meaning I.parts self.old self.new (marks reg.0 label.0) (done_by result) }
         ensures unchanged { OnErr result (self.new ≡ self.old) }
     {
-        self.vregs.check_known(reg, 0)?;
-        self.labels.add(reg, label, self.code.num_insts())
+        self.tables.vregs.check_known(reg, 0)?;
+        self.tables
+            .labels
+            .add(reg, label, self.tables.code.num_insts())
     }
 
     /// Closes the block that is being built.
@@ -113,7 +100,7 @@ impl<I: MachInst + Drop> VCodeBuilder<I> {
         ensures answer { Answers I.meaning I.parts self.old self.new close (done_by result) }
         ensures unchanged { OnErr result (self.new ≡ self.old) }
     {
-        self.code.end_bb()
+        self.tables.code.end_bb()
     }
 
     /// Names the block that the function begins with.

@@ -1,6 +1,6 @@
-//! A call on a builder as a value, and its answer.
-ghost use Rattle.std.specs.Prelude.{◌≡◌};
-ghost use Rattle.vcode.specs.Past.{Answers, Spared, done_by, heard, meant};
+//! A call on a builder as a value.
+ghost use Rattle.std.specs.Prelude.{◌≡◌, OnErr};
+ghost use Rattle.vcode.specs.Past.{Answers, heard, meant};
 
 use crate::builder::VCodeBuilder;
 use crate::index::{BlockIndex, ValueLabel};
@@ -22,44 +22,22 @@ pub enum Call<I> {
     Entry(BlockIndex),
 }
 
-/// What a call was answered.
-#[derive(Clone, Copy)]
-pub enum Answer {
-    Done,
-    Regs(ValueRegs<Reg>),
-    Refused(Fault),
-}
-
-fn answered(done: Result<(), Fault>) -> Answer
-    ensures { heard result ≡ done_by done }
-{
-    match done {
-        Ok(()) => Answer::Done,
-        Err(fault) => Answer::Refused(fault),
-    }
-}
-
 impl<I: MachInst + Drop> VCodeBuilder<I> {
-    /// Makes a call.
-    pub fn make(&mut self, call: Call<I>) -> Answer
+    /// Makes a call, and answers with the registers that it allocated, if it did.
+    pub fn make(&mut self, call: Call<I>) -> Result<Option<ValueRegs<Reg>>, Fault>
         ensures answer { Answers I.meaning I.parts self.old self.new (meant I.meaning I.parts call) (heard result) }
-        ensures unchanged { Spared (heard result) self.old self.new }
+        ensures unchanged { OnErr result (self.new ≡ self.old) }
     {
         match call {
-            Call::Alloc(ty) => match self.alloc(ty) {
-                Ok(regs) => Answer::Regs(regs),
-                Err(fault) => Answer::Refused(fault),
-            },
-            Call::Alias(from, to) => answered(self.set_vreg_alias(from, to)),
-            Call::Push(inst) => answered(self.push(inst)),
-            Call::Succ(block, args) => answered(self.add_succ(block, args.as_slice())),
-            Call::Param(param) => answered(self.add_block_param(param)),
-            Call::Label(reg, label) => answered(self.add_value_label(reg, label)),
-            Call::End => answered(self.end_bb()),
-            Call::Entry(block) => {
-                self.set_entry(block);
-                Answer::Done
-            }
+            Call::Alloc(ty) => return self.alloc(ty).map(Some),
+            Call::Alias(from, to) => self.set_vreg_alias(from, to)?,
+            Call::Push(inst) => self.push(inst)?,
+            Call::Succ(block, args) => self.add_succ(block, args.as_slice())?,
+            Call::Param(param) => self.add_block_param(param)?,
+            Call::Label(reg, label) => self.add_value_label(reg, label)?,
+            Call::End => self.end_bb()?,
+            Call::Entry(block) => self.set_entry(block),
         }
+        Ok(None)
     }
 }

@@ -7,7 +7,7 @@ ghost use Rattle.vcode.specs.Made.{OutputLimits};
 use crate::code::Code;
 use crate::index::BlockIndex;
 use crate::labels::{LabelRecord, ValueLabels};
-use crate::lengths::Lengths;
+use faults::lengths::Lengths;
 use faults::table_id::TableId;
 use machinst::inst::MachInst;
 use machinst::operand::Operand;
@@ -27,13 +27,10 @@ impl OutputTables {
     fn with_lengths(heap: Global, lengths: &Lengths) -> Result<OutputTables, AllocError>
         ensures { IfOk result (λ o. OutputHeld o (capacities lengths.now)) }
     {
-        let operands = Table::new(heap, TableId::Operands, lengths.operands)?;
-        let preds = Table::new(heap, TableId::Preds, lengths.preds)?;
-        let labels = Table::new(heap, TableId::BuiltLabels, lengths.built_labels)?;
         Ok(OutputTables {
-            operands,
-            preds,
-            labels,
+            operands: Table::new(heap, TableId::Operands, lengths.operands)?,
+            preds: Table::new(heap, TableId::Preds, lengths.preds)?,
+            labels: Table::new(heap, TableId::BuiltLabels, lengths.built_labels)?,
         })
     }
 
@@ -61,15 +58,11 @@ impl<I: MachInst + Drop> Tables<I> {
     pub fn with_lengths(heap: Global, lengths: &Lengths) -> Result<Tables<I>, AllocError>
         ensures { IfOk result (λ t. limits_of t ≡ capacities lengths.now) }
     {
-        let vregs = VRegAllocator::with_capacity(heap, lengths.registers)?;
-        let code = Code::with_lengths(heap, lengths)?;
-        let labels = ValueLabels::with_length(heap, lengths.labels)?;
-        let output = OutputTables::with_lengths(heap, lengths)?;
         Ok(Tables {
-            vregs,
-            code,
-            labels,
-            output,
+            vregs: VRegAllocator::with_capacity(heap, lengths.registers)?,
+            code: Code::with_lengths(heap, lengths)?,
+            labels: ValueLabels::with_length(heap, lengths.labels)?,
+            output: OutputTables::with_lengths(heap, lengths)?,
         })
     }
 }

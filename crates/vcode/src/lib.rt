@@ -8,5 +8,4 @@ pub mod code;
 pub mod function_tables;
 pub mod index;
 pub mod labels;
-pub mod lengths;
 pub mod succs;

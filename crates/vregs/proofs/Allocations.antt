@@ -1,5 +1,5 @@
 -- The registers of a value are allocated.
-use Rattle.std.proofs.Common.{◌≡◌, ℕ, ◌+◌, ◌*◌, ◌<◌, ◌≤◌, leb, List, [], ◌∷◌, ◌++◌, map, length, get_or, Some, None, Option, sym, refl, ap, ◌∙◌, subst, append_assoc, arith}
+use Rattle.std.proofs.Common.{◌≡◌, ℕ, ◌+◌, ◌*◌, ◌<◌, leb, List, [], ◌∷◌, ◌++◌, map, length, get_or, Some, None, Option, sym, refl, ap, ◌∙◌, subst, append_assoc, arith}
 use Rattle.faults.specs.declared.fault.Fault.{Fault}
 use Rattle.faults.specs.declared.fault.Fault.TheVariants.{RegsExhausted}
 use Rattle.machinst.specs.Parts.{Part, Parts, part_lists}
@@ -9,15 +9,12 @@ use Rattle.regs.specs.declared.reg.Reg.{Reg}
 use Rattle.regs.specs.declared.reg.RegClass.{RegClass}
 use Rattle.regs.specs.declared.reg.«Type».{«Type» as Ty}
 use Rattle.std.proofs.lemmas.List.{get_or-map, length-map, length_push}
-use Rattle.std.proofs.lemmas.Bool.{leb-true}
 use Rattle.std.specs.Option.{option_map}
 use Rattle.vregs.specs.Entries.{Filed, limit_of, part_of, parts_in, vregs_of, word_of}
 use Rattle.vregs.specs.Files.{File, alloc_by, count, new_words, part_list, parts_of, unless, with_regs}
 use Rattle.vregs.specs.declared.vregs.VReg.{VReg}
 use Rattle.vregs.specs.declared.vregs.VRegAllocator.{VRegAllocator}
-use Rattle.vregs.proofs.Chains.{none_some, some_same}
 use Rattle.vregs.proofs.Filing.{filed_push}
-use Rattle.vregs.proofs.Outcomes.{unless_none}
 
 abbrev new_reg : RegClass → Ty → VReg
 new_reg k t = record { alias = None; ty = t; class = k }
@@ -38,34 +35,35 @@ module _ (cs : List RegClass) (ts : List Ty) (c0 : RegClass) (t0 : Ty) where
       same_part p (class_number (get_or cs i c0)) (get_or ts i t0).0
       (sym (get_or-map class_number cs i c0 0 l) ∙ e) (sym (get_or-map (λ t. t.0) ts i t0 0 l') ∙ f)
 
-  lengths : (ps : Parts) → (map class_number cs, map (λ t. t.0) ts) ≡ part_lists ps → (length cs ≡ length (part_lists ps).0) × (length ts ≡ length (part_lists ps).1)
-  lengths ps e = (sym (length-map cs class_number) ∙ ap (λ x. length x.0) e, sym (length-map ts (λ t. t.0)) ∙ ap (λ x. length x.1) e)
+  listed_as : (ps : Parts) → Told (Some ps) cs ts → (map class_number cs, map (λ t. t.0) ts) ≡ part_lists ps
+  listed_as ps e = cc
+
+  lengths : (ps : Parts) → Told (Some ps) cs ts → (length cs ≡ length (part_lists ps).0) × (length ts ≡ length (part_lists ps).1)
+  lengths ps e = (
+    sym (length-map cs class_number) ∙ ap (λ x. length x.0) (listed_as ps e),
+    sym (length-map ts (λ t. t.0)) ∙ ap (λ x. length x.1) (listed_as ps e),
+  )
 
   pub one_part : (o : Option Parts) → Told o cs ts → length cs ≡ 1 → (0 < length ts) × (o ≡ Some (one (part_at 0)))
-  one_part None e l = none_some e
+  one_part None e l = cc
   one_part (Some (one p)) e l =
-      let s = some_same e in
-      let n = lengths (one p) s in
+      let s = listed_as (one p) e in
+      let n = lengths (one p) e in
       let here : 0 < length ts = omega (arith, n.1) in
       (here, ap (λ q. Some (one q)) (part_is 0 p (omega arith) here (ap (λ x. get_or x.0 0 0) s) (ap (λ x. get_or x.1 0 0) s)))
-  one_part (Some (two p q)) e l = let n = lengths (two p q) (some_same e) in absurd (omega (arith, n.0))
+  one_part (Some (two p q)) e l = let n = lengths (two p q) e in absurd (omega (arith, n.0))
 
   pub two_parts : (o : Option Parts) → Told o cs ts → length cs ≡ 2 → (1 < length ts) × (o ≡ Some (two (part_at 0) (part_at 1)))
-  two_parts None e l = none_some e
-  two_parts (Some (one p)) e l = let n = lengths (one p) (some_same e) in absurd (omega (arith, n.0))
+  two_parts None e l = cc
+  two_parts (Some (one p)) e l = let n = lengths (one p) e in absurd (omega (arith, n.0))
   two_parts (Some (two p q)) e l =
-      let s = some_same e in
-      let n = lengths (two p q) s in
+      let s = listed_as (two p q) e in
+      let n = lengths (two p q) e in
       let here : 1 < length ts = omega (arith, n.1) in (
         here,
         ap (λ x. Some (two x q)) (part_is 0 p (omega arith) (omega arith) (ap (λ x. get_or x.0 0 0) s) (ap (λ x. get_or x.1 0 0) s))
             ∙ ap (λ x. Some (two (part_at 0) x)) (part_is 1 q (omega arith) here (ap (λ x. get_or x.0 1 0) s) (ap (λ x. get_or x.1 1 0) s)),
       )
-
-  pub some_parts : (o : Option Parts) → Told o cs ts → (0 < length cs) × (length cs < 3)
-  some_parts None e = none_some e
-  some_parts (Some (one p)) e = let n = lengths (one p) (some_same e) in (omega (arith, n.0), omega (arith, n.0))
-  some_parts (Some (two p q)) e = let n = lengths (two p q) (some_same e) in (omega (arith, n.0), omega (arith, n.0))
 
   listed : (ps : Parts) → length (part_list ps) ≡ length (part_lists ps).0
   listed (one p) = refl
@@ -73,9 +71,9 @@ module _ (cs : List RegClass) (ts : List Ty) (c0 : RegClass) (t0 : Ty) where
 
   module _ (a : VRegAllocator) (f : File) (h : Filed a f) (ty : ℕ) where
     room_told : (o : Option Parts) → Told o cs ts → alloc_by o (limit_of a) f ty ≡ unless (leb (count (parts_in a) + length cs) (limit_of a)) (RegsExhausted (count (parts_in a)))
-    room_told None e = none_some e
+    room_told None e = cc
     room_told (Some ps) e =
-        ap (λ n. unless (leb (count f.regs + n) (limit_of a)) (RegsExhausted (count f.regs))) (listed ps ∙ sym (lengths ps (some_same e)).0)
+        ap (λ n. unless (leb (count f.regs + n) (limit_of a)) (RegsExhausted (count f.regs))) (listed ps ∙ sym (lengths ps e).0)
         ∙ ap (λ rs. unless (leb (count rs + length cs) (limit_of a)) (RegsExhausted (count rs))) (sym h.regs)
 
     pub no_room : (o : Option Parts) (x : Fault) → Told o cs ts → unless (leb (count (parts_in a) + length cs) (limit_of a)) (RegsExhausted (count (parts_in a))) ≡ Some x → alloc_by o (limit_of a) f ty ≡ Some x
@@ -88,11 +86,6 @@ Room a n = unless (leb (count (parts_in a) + n) (limit_of a)) (RegsExhausted (co
 count_push : (a b : VRegAllocator) (v : VReg) → vregs_of b ≡ vregs_of a ++ v ∷ [] → count (parts_in b) ≡ count (parts_in a) + 1
 count_push a b v put =
     omega (arith, length-map (vregs_of b) part_of, ap length put, length_push (vregs_of a) v, length-map (vregs_of a) part_of)
-
-pub room_left : (a b : VRegAllocator) (v : VReg) → vregs_of b ≡ vregs_of a ++ v ∷ [] → limit_of b ≡ limit_of a → Room a 2 → count (parts_in b) + 1 ≤ limit_of b
-room_left a b v put same u =
-    let l = leb-true (count (parts_in a) + 2) (limit_of a) (unless_none _ (RegsExhausted (count (parts_in a))) u) in
-    omega (arith, count_push a b v put)
 
 -- what an accepted call leaves
 abbrev Granted : VRegAllocator → VRegAllocator → File → Option Parts → List Reg → ℕ → Type 0

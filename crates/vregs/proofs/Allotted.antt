@@ -3,11 +3,11 @@ use Rattle.std.proofs.Common.{◌≡◌, ℕ, zero, suc, ◌+◌, ◌-◌, ◌*�
 use Rattle.machinst.specs.Parts.{Part}
 use Rattle.regs.specs.Words.{index_of, spill_slot}
 use Rattle.std.proofs.lemmas.List.{length-append}
-use Rattle.std.proofs.lemmas.Bool.{and_parts, both_ways, cases_lt, cond-true, eqb-true, lt-ltb, ltb-false, ltb-true}
+use Rattle.std.proofs.lemmas.Bool.{and_parts, cases_lt, cond-true, eqb-true, lt-ltb, ltb-false, ltb-true}
 use Rattle.std.specs.List.{slice_get}
 use Rattle.vregs.specs.Files.{Valid, allocated, count, has_class, known, new_words, reg_at}
 use Rattle.vregs.specs.Roots.{alias_of, root}
-use Rattle.vregs.proofs.Chains.{alias_hit, none_some, some_same}
+use Rattle.vregs.proofs.Chains.{alias_hit}
 
 -- An allocated word.
 pub record Allotted (rs : List Part) (w : ℕ) : Type 0 where
@@ -25,8 +25,8 @@ allotted rs w h =
     go i (ltb (index_of w) 192) (slice_get rs (index_of w - 192)) refl refl k.1
   where
     go : index_of w < count rs → (b : Bool) (o : Option Part) → ltb (index_of w) 192 ≡ b → slice_get rs (index_of w - 192) ≡ o → has_class (cond b None o) (w % 4) ≡ true → Allotted rs w
-    go i true o e f h = absurd (both_ways false refl h)
-    go i false None e f h = absurd (both_ways false refl h)
+    go i true o e f h = cc
+    go i false None e f h = cc
     go i false (Some p) e f h = record { part = p; below = i; virtual = ltb-false (index_of w) 192 e; stands = f; class = eqb-true p.class (w % 4) h }
 
 -- of these words, how many have no alias
@@ -50,9 +50,9 @@ module _ (p : ℕ × ℕ) (ps : List (ℕ × ℕ)) where
   free_most (w ∷ ws) = free_step (root ps p.1) 0 (free (p ∷ ps) ws) (free ps ws) (eqb w p.0) (alias_of ps w) (free_most ws)
 
   free_less : (ws : List ℕ) (i : ℕ) → slice_get ws i ≡ Some p.0 → alias_of ps p.0 ≡ None → free (p ∷ ps) ws + 1 ≤ free ps ws
-  free_less [] i h none = none_some (sym h)
+  free_less [] i h none = cc
   free_less (w ∷ ws) zero h none =
-      let e : w ≡ p.0 = some_same h in
+      let e : w ≡ p.0 = cc in
       let new : free (p ∷ ps) (w ∷ ws) ≡ free (p ∷ ps) ws = ap (λ o. cond (is_some o) (free (p ∷ ps) ws) (free (p ∷ ps) ws + 1)) (alias_hit p ps w e) in
       let old : free ps (w ∷ ws) ≡ free ps ws + 1 = ap (λ o. cond (is_some o) (free ps ws) (free ps ws + 1)) (ap (alias_of ps) e ∙ none) in
       omega (arith, free_most ws)
@@ -61,8 +61,8 @@ module _ (p : ℕ × ℕ) (ps : List (ℕ × ℕ)) where
 
 -- the words of all registers: that of register i stands at i
 word_at : (n i : ℕ) (rs : List Part) (p : Part) → slice_get rs i ≡ Some p → slice_get (new_words n rs) i ≡ Some (4 * (n + i) + p.class)
-word_at n i [] p h = none_some (sym h)
-word_at n zero (r ∷ rs) p h = let e : r.class ≡ p.class = ap (λ q. q.class) (some_same h) in ap Some (omega arith)
+word_at n i [] p h = cc
+word_at n zero (r ∷ rs) p h = let e : r.class ≡ p.class = cc in ap Some (omega arith)
 word_at n (suc i) (r ∷ rs) p h = let e : 4 * (n + 1 + i) + p.class ≡ 4 * (n + suc i) + p.class = omega arith in word_at (n + 1) i rs p h ∙ ap Some e
 
 words_long : (n : ℕ) (rs : List Part) → length (new_words n rs) ≡ length rs
@@ -114,6 +114,6 @@ pub same_word : (rs : List Part) (v w : ℕ) → allocated rs v ≡ true → all
 same_word rs v w h k e =
     let a = allotted rs v h in
     let b = allotted rs w k in
-    let p : a.part ≡ b.part = some_same (sym a.stands ∙ ap (slice_get rs) e ∙ b.stands) in
+    let p : a.part ≡ b.part = cc in
     let c : v % 4 ≡ w % 4 = sym a.class ∙ ap (λ q. q.class) p ∙ b.class in
     omega (arith, a.virtual, b.virtual)

@@ -1,15 +1,9 @@
 -- The root of a word and the chain of its aliases.
-use Rattle.std.proofs.Common.{◌≡◌, ℕ, ◌+◌, ◌≤◌, false, cond, eqb, List, [], ◌∷◌, length, IfNone, Some, None, Option, sym, refl, ap, ◌∙◌, subst, ⊎_elim, arith}
+use Rattle.std.proofs.Common.{◌≡◌, ℕ, ◌+◌, ◌≤◌, false, cond, eqb, List, [], ◌∷◌, length, Some, None, Option, sym, refl, ap, ◌∙◌, ⊎_elim, arith}
 use Rattle.machinst.specs.Parts.{Part}
-use Rattle.std.proofs.lemmas.Bool.{both_ways, cases_eq, eq-eqb, ne_eqb}
+use Rattle.std.proofs.lemmas.Bool.{cases_eq, eq-eqb, ne_eqb}
 use Rattle.vregs.specs.Files.{Valid, allocated}
 use Rattle.vregs.specs.Roots.{alias_of, root}
-
-pub none_some : {X A : Type 0} {x : A} → Some x ≡ None → X
-none_some {X} {A} {x} e = let P : Option A → Type 0 = λ o. IfNone o X in subst P e tt
-
-pub some_same : {A : Type 0} {x y : A} → Some x ≡ Some y → x ≡ y
-some_same e = cc
 
 root_hit : (p : ℕ × ℕ) (ps : List (ℕ × ℕ)) (r : ℕ) → root ps r ≡ p.0 → root (p ∷ ps) r ≡ root ps p.1
 root_hit p ps r h = ap (λ b. cond b (root ps p.1) (root ps r)) (eq-eqb (root ps r) p.0 h)
@@ -57,7 +51,7 @@ module _ (rs : List Part) where
   pub none_root : (ps : List (ℕ × ℕ)) → Valid rs ps → (r : ℕ) → alias_of ps r ≡ None → root ps r ≡ r
   none_root [] v r h = refl
   none_root (p ∷ ps) v r h = ⊎_elim
-      (λ e. none_some (sym (alias_hit p ps r e) ∙ h))
+      (λ e. let hit = alias_hit p ps r e in cc)
       (λ e. let i : root ps r ≡ r = none_root ps v.4 r (sym (alias_miss p ps r e) ∙ h) in root_miss p ps r (λ f. e (sym i ∙ f)) ∙ i)
       (cases_eq r p.0)
 
@@ -66,9 +60,10 @@ module _ (rs : List Part) where
 
   -- where there is one, its root is the word's
   pub some_root : (ps : List (ℕ × ℕ)) → Valid rs ps → (r m : ℕ) → alias_of ps r ≡ Some m → root ps r ≡ root ps m
-  some_root [] v r m h = none_some (sym h)
+  some_root [] v r m h = cc
   some_root (p ∷ ps) v r m h = ⊎_elim
-      (λ e. let i : root ps p.1 ≡ m = some_same (sym (alias_hit p ps r e) ∙ h) in
+      (λ e. let hit = alias_hit p ps r e in
+      let i : root ps p.1 ≡ m = cc in
       let own : root ps r ≡ p.0 = ap (root ps) e ∙ none_root ps v.4 p.0 v.2 in
       let still : root ps m ≡ root ps p.1 = ap (root ps) (sym i) ∙ root_root ps v.4 p.1 in
       root_hit p ps r own ∙ sym still ∙ sym (root_miss p ps m (λ f. v.3 (sym still ∙ f))))
@@ -78,15 +73,16 @@ module _ (rs : List Part) where
   far_none : (ps : List (ℕ × ℕ)) → Valid rs ps → (r : ℕ) → alias_of ps r ≡ None → far ps r ≡ 0
   far_none [] v r h = refl
   far_none (p ∷ ps) v r h = ⊎_elim
-      (λ e. none_some (sym (alias_hit p ps r e) ∙ h))
+      (λ e. let hit = alias_hit p ps r e in cc)
       (λ e. let less : alias_of ps r ≡ None = sym (alias_miss p ps r e) ∙ h in
       far_miss p ps r (λ f. e (sym (none_root ps v.4 r less) ∙ f)) ∙ far_none ps v.4 r less)
       (cases_eq r p.0)
 
   pub far_some : (ps : List (ℕ × ℕ)) → Valid rs ps → (r m : ℕ) → alias_of ps r ≡ Some m → far ps r ≡ far ps m + 1
-  far_some [] v r m h = none_some (sym h)
+  far_some [] v r m h = cc
   far_some (p ∷ ps) v r m h = ⊎_elim
-      (λ e. let i : root ps p.1 ≡ m = some_same (sym (alias_hit p ps r e) ∙ h) in
+      (λ e. let hit = alias_hit p ps r e in
+      let i : root ps p.1 ≡ m = cc in
       let own : root ps r ≡ p.0 = ap (root ps) e ∙ none_root ps v.4 p.0 v.2 in
       let still : root ps m ≡ root ps p.1 = ap (root ps) (sym i) ∙ root_root ps v.4 p.1 in
       let here : far ps r ≡ 0 = far_none ps v.4 r (ap (alias_of ps) e ∙ v.2) in
@@ -113,4 +109,4 @@ module _ (rs : List Part) where
   pub unallocated_none : (ps : List (ℕ × ℕ)) → Valid rs ps → (w : ℕ) → allocated rs w ≡ false → alias_of ps w ≡ None
   unallocated_none [] v w h = refl
   unallocated_none (p ∷ ps) v w h =
-      alias_miss p ps w (λ e. both_ways (allocated rs w) h (ap (allocated rs) e ∙ v.0)) ∙ unallocated_none ps v.4 w h
+      alias_miss p ps w (λ e. let at = ap (allocated rs) e in cc) ∙ unallocated_none ps v.4 w h

@@ -3,8 +3,9 @@ use Rattle.std.proofs.Common.{◌≡◌, ℕ, zero, suc, ◌+◌, ◌-◌, ◌<�
 use Rattle.faults.specs.declared.fault.Fault.TheVariants.{AlreadyAliased, UnknownReg}
 use Rattle.regs.specs.Words.{index_of}
 use Rattle.regs.specs.declared.reg.Reg.{Reg}
+use Rattle.std.proofs.Math.Seq.{map-set_same}
 use Rattle.std.proofs.lemmas.List.{get_or_past, get_or-set_other, get_or-set_same, length-map, map_push, map-set}
-use Rattle.std.proofs.lemmas.Bool.{both_ways, cases_eq, cases_lt, cond-true}
+use Rattle.std.proofs.lemmas.Bool.{cases_eq, cases_lt, cond-true}
 use Rattle.std.specs.Option.{option_map}
 use Rattle.vregs.specs.Entries.{Filed, Rooted, alias_in, entry_alias, part_of, parts_in, vregs_of, word_of}
 use Rattle.vregs.specs.Files.{File, alias_fault, allocated, count, unless, with_alias, with_regs}
@@ -14,7 +15,7 @@ use Rattle.vregs.specs.declared.vregs.VRegAllocator.{VRegAllocator}
 use Rattle.vregs.proofs.Allotted.{allocated_same, allotted, same_word, still_valid}
 use Rattle.vregs.proofs.Chains.{alias_hit, alias_miss}
 use Rattle.vregs.proofs.Outcomes.{alias_tested, unless_none}
-use Rattle.vregs.proofs.Places.{place_alias, place_virtual, place_within}
+use Rattle.vregs.proofs.Places.{place_alias, place_virtual}
 
 -- the position of a word's register
 abbrev place : ℕ → ℕ
@@ -59,11 +60,6 @@ filed_push a b f v h e put = record {
 abbrev pub aliased : VReg → Reg → VReg
 aliased v r = record { alias = Some r; ty = v.ty; class = v.class }
 
-parts_kept : (vs : List VReg) (i : ℕ) (d : VReg) (r : Reg) → map part_of (set vs i (aliased (get_or vs i d) r)) ≡ map part_of vs
-parts_kept [] i d r = refl
-parts_kept (v ∷ vs) zero d r = refl
-parts_kept (v ∷ vs) (suc i) d r = ap (λ rs. part_of v ∷ rs) (parts_kept vs i d r)
-
 module _ (a b : VRegAllocator) (f : File) (from to : ℕ) (d : VReg) (r : Reg) where
   pub filed_alias : Filed a f
       → allocated f.regs from ≡ true → allocated f.regs to ≡ true → alias_of f.aliases from ≡ None → (root f.aliases to ≡ from → ⊥)
@@ -76,7 +72,7 @@ module _ (a b : VRegAllocator) (f : File) (from to : ℕ) (d : VReg) (r : Reg) w
   }
     where
       parts : map part_of (vregs_of b) ≡ map part_of (vregs_of a)
-      parts = ap (map part_of) put ∙ parts_kept (vregs_of a) (place from) d r
+      parts = ap (map part_of) put ∙ map-set_same part_of (vregs_of a) (place from) _ d refl
 
       within : place from < length (map own_alias (vregs_of a))
       within =
@@ -109,13 +105,9 @@ is_some_mapped : (o : Option Reg) → is_some (option_map word_of o) ≡ is_some
 is_some_mapped None = refl
 is_some_mapped (Some r) = refl
 
-pub alias_within : (a : VRegAllocator) (from i : ℕ) (xs : List VReg) → unless (allocated (parts_in a) from) (UnknownReg 0) ≡ None → i ≡ place from → xs ≡ vregs_of a → i < length xs
-alias_within a from i xs told i_is e =
-    omega (arith, i_is, place_within (vregs_of a) from (unless_none (allocated (parts_in a) from) (UnknownReg 0) told), ap length e)
-
 no_alias : (o : Option ℕ) → is_some o ≡ false → o ≡ None
 no_alias None e = refl
-no_alias (Some m) e = absurd (both_ways true e refl)
+no_alias (Some m) e = cc
 
 -- an alias of allocated words that makes no cycle
 module _ (a : VRegAllocator) (from to i : ℕ) (r : Reg) (d : VReg)

@@ -1,5 +1,5 @@
 -- What a call refuses, from its tests.
-use Rattle.std.proofs.Common.{◌≡◌, ℕ, ◌<◌, Bool, true, false, not, eqb, ltb, length, is_some, IfErr, Some, None, Ok, Err, Option, Result, sym, refl, ap, ◌∙◌, subst, arith}
+use Rattle.std.proofs.Common.{◌≡◌, ℕ, ◌<◌, Bool, true, false, not, eqb, ltb, length, is_some, IsErrAnd, OnErr, Some, None, Ok, Err, Option, Result, sym, refl, ap, ◌∙◌, arith}
 use Rattle.faults.specs.declared.fault.Fault.{Fault}
 use Rattle.faults.specs.declared.fault.Fault.TheVariants.{AliasCycle, AlreadyAliased, LowLevelBranch, TooManySlots, UnknownReg}
 use Rattle.machinst.specs.Meaning.{Meaning, slots_of}
@@ -9,22 +9,20 @@ use Rattle.std.specs.List.{slice_get}
 use Rattle.vregs.specs.Files.{File, Outcome, alias_fault, allocated, or_else, unless}
 use Rattle.vregs.specs.Insts.{first_unknown, inst_fault, move_fault, slot_words}
 use Rattle.vregs.specs.Roots.{alias_of, root}
-use Rattle.vregs.proofs.Chains.{none_some}
 use Rattle.vregs.proofs.Scans.{nth_test}
 
-pub outcome_err : {X : Type 0} (o : Option Fault) (r : Result X Fault) (P : X → Type 0) (f : Fault) → r ≡ Err f → o ≡ Some f → Outcome o r P
-outcome_err {X} o r P f e h = let Q : Result X Fault → Type 0 = λ s. Outcome o s P in subst Q (sym e) h
+-- what the exit of a `?` hands on
+pub outcome_err : {X : Type 0} (o : Option Fault) (r : Result X Fault) (P : X → Type 0) (f : Fault) → IsErrAnd r (λ y. y ≡ f) → o ≡ Some f → Outcome o r P
+outcome_err o (Ok x) P f h e = absurd h
+outcome_err o (Err y) P f h e = e ∙ ap Some (sym h)
 
-pub refused_all : {X E : Type 0} (r : Result X E) (P : E → Type 0) → ((e : E) → P e) → IfErr r P
-refused_all (Ok x) P h = tt
-refused_all (Err e) P h = h e
-
-pub outcome_same : {X : Type 0} (o q : Option Fault) (r : Result X Fault) (P : X → Type 0) → o ≡ q → Outcome q r P → Outcome o r P
-outcome_same o q r P e h = let Q : Option Fault → Type 0 = λ s. Outcome s r P in subst Q (sym e) h
+pub on_err : {X E U : Type 0} (r : Result X E) → U → OnErr r U
+on_err (Ok x) u = tt
+on_err (Err e) u = u
 
 pub unless_none : (b : Bool) (f : Fault) → unless b f ≡ None → b ≡ true
 unless_none true f h = refl
-unless_none false f h = none_some h
+unless_none false f h = cc
 
 module _ (n : ℕ) (m : Meaning) (no_branch : m.control.low_level_branch ≡ false) where
   abbrev after_slots : Option Fault
@@ -34,9 +32,6 @@ module _ (n : ℕ) (m : Meaning) (no_branch : m.control.low_level_branch ≡ fal
   slots_tested b e =
       ap (λ a. or_else (unless (not a) LowLevelBranch) (or_else (unless (not (ltb 8 (length (slots_of m)))) TooManySlots) after_slots)) no_branch
       ∙ ap (λ a. or_else (unless (not a) TooManySlots) after_slots) (sym (nth_test (slots_of m) 8) ∙ e)
-
-  pub too_many : is_some (slice_get (slots_of m) 8) ≡ true → inst_fault n m ≡ Some TooManySlots
-  too_many = slots_tested true
 
   pub few : is_some (slice_get (slots_of m) 8) ≡ false → length (slots_of m) < 9
   few e = omega (arith, ltb-false 8 (length (slots_of m)) (sym (nth_test (slots_of m) 8) ∙ e))

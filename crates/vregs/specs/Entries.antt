@@ -5,8 +5,7 @@ use Rattle.regs.specs.Classes.{class_number}
 use Rattle.regs.specs.Words.{index_of}
 use Rattle.regs.specs.declared.reg.Reg.{Reg}
 use Rattle.std.specs.Option.{option_map}
-use Rattle.tables.specs.Tables.{bound, entries}
-use Rattle.vregs.specs.Files.{File, Valid, allocated}
+use Rattle.vregs.specs.Files.{File, Valid, allocated, count}
 use Rattle.vregs.specs.Roots.{alias_of, root}
 use Rattle.vregs.specs.declared.vregs.VReg.{VReg}
 use Rattle.vregs.specs.declared.vregs.VRegAllocator.{VRegAllocator}
@@ -19,14 +18,18 @@ part_of v = record { class = class_number v.class; ty = v.ty.0 }
 
 -- the registers of an allocator, the first one first
 abbrev pub vregs_of : VRegAllocator → List VReg
-vregs_of a = entries a.vregs
+vregs_of a = a.vregs.entries
 
 abbrev pub parts_in : VRegAllocator → List Part
 parts_in a = map part_of (vregs_of a)
 
+-- how many registers there are, the physical ones counted
+abbrev pub count_of : VRegAllocator → ℕ
+count_of a = count (parts_in a)
+
 -- how many registers there may be, the physical ones counted
 abbrev pub limit_of : VRegAllocator → ℕ
-limit_of a = bound a.vregs
+limit_of a = a.vregs.limit
 
 -- the alias that entry i holds
 abbrev pub entry_alias : List VReg → ℕ → Option ℕ

@@ -42,9 +42,20 @@ abbrev pub Outcome : {X : Type 0} → Option Fault → Result X Fault → (X →
 Outcome o (Ok x) P = (o ≡ None) × P x
 Outcome o (Err f) P = o ≡ Some f
 
+-- the same of a check, which leaves nothing
+abbrev pub Refuses : Option Fault → Result (Unit {0}) Fault → Type 0
+Refuses o r = Outcome o r (λ _. Unit {0})
+
 -- a fault unless the test holds
 abbrev pub unless : Bool → Fault → Option Fault
 unless b f = cond b None (Some f)
+
+-- the word passed at a place is not known where there are n registers, or is not allocated
+abbrev pub unknown_fault : ℕ → ℕ → ℕ → Option Fault
+unknown_fault n w place = unless (known n w) (UnknownReg place)
+
+abbrev pub unallocated_fault : List Part → ℕ → ℕ → Option Fault
+unallocated_fault rs w place = unless (allocated rs w) (UnknownReg place)
 
 -- the first of two faults
 abbrev pub or_else : Option Fault → Option Fault → Option Fault
@@ -78,18 +89,18 @@ new_words n [] = []
 new_words n (p ∷ ps) = (4 * n + p.class) ∷ new_words (n + 1) ps
 
 abbrev pub with_regs : File → List Part → File
-with_regs f ps = record { regs = f.regs ++ ps; aliases = f.aliases }
+with_regs f ps = record f { regs = f.regs ++ ps }
 
 -- why an alias is not accepted, if it is not
 abbrev pub alias_fault : File → ℕ → ℕ → Option Fault
 alias_fault f from to =
-    or_else (unless (allocated f.regs from) (UnknownReg 0))
-    (or_else (unless (allocated f.regs to) (UnknownReg 1))
+    or_else (unallocated_fault f.regs from 0)
+    (or_else (unallocated_fault f.regs to 1)
     (or_else (unless (not (root f.aliases to == from)) (AliasCycle (index_of from)))
     (unless (not (is_some (alias_of f.aliases from))) (AlreadyAliased (index_of from)))))
 
 abbrev pub with_alias : File → ℕ → ℕ → File
-with_alias f from to = record { regs = f.regs; aliases = (from, to) ∷ f.aliases }
+with_alias f from to = record f { aliases = (from, to) ∷ f.aliases }
 
 -- every alias leads from an allocated word that had none to another root
 abbrev pub Valid : List Part → List (ℕ × ℕ) → Type 0

@@ -1,8 +1,8 @@
 //! Which instructions can be pushed.
 ghost use Rattle.machinst.specs.Meaning.{slots_of};
-ghost use Rattle.std.specs.Prelude.{◌≡◌, ◌<◌, length};
-ghost use Rattle.vregs.specs.Entries.{parts_in};
-ghost use Rattle.vregs.specs.Files.{Outcome, count};
+ghost use Rattle.std.specs.Prelude.{◌<◌, length};
+ghost use Rattle.vregs.specs.Entries.{count_of};
+ghost use Rattle.vregs.specs.Files.{Refuses};
 ghost use Rattle.vregs.specs.Insts.{first_unknown, inst_fault, move_fault, slot_fault, slot_words};
 
 use crate::vregs::VRegAllocator;
@@ -16,7 +16,7 @@ impl VRegAllocator {
     /// Refuses an instruction that is a low-level branch, has more than eight slots, names a word that is not known, or is a
     /// move of a physical register.
     pub fn check_inst<I: MachInst>(&self, inst: &I) -> Result<(), Fault>
-        ensures { Outcome (inst_fault (count (parts_in self.now)) (I.meaning inst.now)) result (λ _. Unit {0}) }
+        ensures { Refuses (inst_fault (count_of self.now) (I.meaning inst.now)) result }
     {
         if inst.is_low_level_branch() {
             return Err(Fault::LowLevelBranch);
@@ -30,12 +30,11 @@ impl VRegAllocator {
 
     // Refuses the first slot whose word is not known, of an instruction with at most eight.
     fn check_slots<I: MachInst>(&self, inst: &I) -> Result<(), Fault>
-        ensures { length (slots_of (I.meaning inst.now)) < 9 → Outcome (first_unknown (count (parts_in self.now)) 0 (slot_words (I.meaning inst.now))) result (λ _. Unit {0}) }
+        ensures { length (slots_of (I.meaning inst.now)) < 9 → Refuses (first_unknown (count_of self.now) 0 (slot_words (I.meaning inst.now))) result }
     {
         for k in 0..MAX_SLOTS {
-            match inst.slot(k) {
-                Some(slot) => self.check_known(slot.reg, k)?,
-                None => return Ok(()),
+            if let Some(slot) = inst.slot(k) {
+                self.check_known(slot.reg, k)?;
             }
         }
         Ok(())
@@ -44,7 +43,7 @@ impl VRegAllocator {
 
 // Refuses a move whose source, or else whose destination, is a physical register.
 fn check_move<I: MachInst>(inst: &I) -> Result<(), Fault>
-    ensures { Outcome (move_fault (I.meaning inst.now) (I.meaning inst.now).operation.move) result (λ _. Unit {0}) }
+    ensures { Refuses (move_fault (I.meaning inst.now) (I.meaning inst.now).operation.move) result }
 {
     let Some((dst, src)) = inst.is_move() else {
         return Ok(());
@@ -55,7 +54,7 @@ fn check_move<I: MachInst>(inst: &I) -> Result<(), Fault>
 
 // Refuses slot k of a move where its word is a physical register.
 fn check_virtual<I: MachInst>(inst: &I, k: usize) -> Result<(), Fault>
-    ensures { Outcome (slot_fault (I.meaning inst.now) k) result (λ _. Unit {0}) }
+    ensures { Refuses (slot_fault (I.meaning inst.now) k) result }
 {
     match inst.slot(k) {
         Some(slot) if slot.reg.is_real() => Err(Fault::PhysicalRegInMove(k)),

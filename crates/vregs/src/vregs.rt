@@ -1,26 +1,22 @@
-ghost use Rattle.std.specs.Prelude.{◌≡◌, ◌+◌, ◌-◌, ◌*◌, ◌<◌, ◌≤◌, [], ◌∷◌, ◌++◌, map, IfOk, if◌then◌else◌, Some, None, OnErr, nat_le, nat_lt};
+ghost use Rattle.std.specs.Prelude.{◌≡◌, ◌+◌, ◌-◌, ◌*◌, ◌<◌, ◌≤◌, [], ◌∷◌, ◌++◌, map, IfOk, if◌then◌else◌, Some, None, OnErr, nat_le};
 ghost use Rattle.faults.specs.TableIds.{capacity_of};
 ghost use Rattle.faults.specs.declared.fault.Fault.TheVariants.{Full, RegsExhausted, UnknownReg};
 ghost use Rattle.faults.specs.declared.table_id.TableId.TheVariants.{Registers};
-ghost use Rattle.machinst.specs.Parts.{Part};
 ghost use Rattle.regs.specs.Classes.{class_number};
 ghost use Rattle.regs.specs.Parts.{value_regs};
 ghost use Rattle.regs.specs.Words.{index_of};
 ghost use Rattle.std.specs.Option.{option_map};
-ghost use Rattle.vregs.specs.Entries.{Filed, Rooted, alias_in, limit_of, part_of, parts_in, vregs_of, word_of};
-ghost use Rattle.vregs.specs.Files.{File, Outcome, RootRule, alias_fault, alloc_fault, allocated, count, known, new_words, parts_of, unless, with_alias, with_regs};
+ghost use Rattle.vregs.specs.Entries.{Filed, Rooted, alias_in, count_of, limit_of, parts_in, vregs_of, word_of};
+ghost use Rattle.vregs.specs.Files.{File, Outcome, Refuses, RootRule, alias_fault, alloc_fault, allocated, count, known, new_words, parts_of, unallocated_fault, unknown_fault, unless, with_alias, with_regs};
 ghost use Rattle.vregs.specs.Insts.{first_unknown};
 
 use faults::fault::Fault;
 use faults::table_id::TableId;
 use machinst::inst::MachInst;
-use regs::reg::{Reg, RegClass, Type};
+use regs::reg::{PINNED_VREGS, Reg, RegClass, Type};
 use regs::value_regs::ValueRegs;
 use std::alloc::{AllocError, Global};
 use tables::table::Table;
-
-/// How many of the first indexes are physical registers, which the table has no entries for.
-const PINNED_VREGS: usize = 192;
 
 /// A virtual register: what it is an alias of, the type of what it holds, and its class.
 #[derive(Clone, Copy)]
@@ -30,7 +26,7 @@ pub struct VReg {
     class: RegClass,
 }
 
-/// The register file.
+/// The register file. The table has no entries for the physical registers.
 #[derive(Drop)]
 pub struct VRegAllocator {
     vregs: Table<VReg>,
@@ -48,7 +44,7 @@ impl VRegAllocator {
 
     /// Refuses a table that has no room for the physical registers.
     pub fn check_capacity(&self) -> Result<(), Fault>
-        ensures { Outcome (unless (nat_lt 191 (limit_of self.now)) (Full Registers)) result (λ _. Unit {0}) }
+        ensures { Refuses (unless (nat_le 192 (limit_of self.now)) (Full Registers)) result }
     {
         if self.vregs.limit() < PINNED_VREGS {
             Err(Fault::Full(TableId::Registers))
@@ -67,7 +63,7 @@ impl VRegAllocator {
 
     // How many registers there are, the physical ones counted.
     fn count(&self) -> usize
-        ensures count { result ≡ count (parts_in self.now) }
+        ensures count { result ≡ count_of self.now }
         ensures few { result ≤ 2097343 }
     {
         PINNED_VREGS + self.vregs.len()
@@ -75,17 +71,17 @@ impl VRegAllocator {
 
     /// Whether the word names a register, physical or virtual.
     pub fn is_known(&self, reg: Reg) -> bool
-        ensures { result ≡ known (count (parts_in self.now)) reg.0 }
+        ensures { result ≡ known (count_of self.now) reg.0 }
     {
-        match reg.index() {
-            Some(index) => reg.class().is_some() && (index as usize) < self.count(),
-            None => false,
-        }
+        reg.class().is_some()
+            && reg
+                .index()
+                .is_some_and(|index| (index as usize) < self.count())
     }
 
     /// Refuses a word that is not known; it is the one at `place` among those that were passed.
     pub fn check_known(&self, reg: Reg, place: usize) -> Result<(), Fault>
-        ensures { Outcome (unless (known (count (parts_in self.now)) reg.0) (UnknownReg place)) result (λ _. Unit {0}) }
+        ensures { Refuses (unknown_fault (count_of self.now) reg.0 place) result }
     {
         if self.is_known(reg) {
             Ok(())
@@ -96,7 +92,7 @@ impl VRegAllocator {
 
     /// Refuses the first word that is not known.
     pub fn check_all_known(&self, regs: &[Reg]) -> Result<(), Fault>
-        ensures { Outcome (first_unknown (count (parts_in self.now)) 0 (map word_of regs.now)) result (λ _. Unit {0}) }
+        ensures { Refuses (first_unknown (count_of self.now) 0 (map word_of regs.now)) result }
     {
         for (i, reg) in regs.iter().enumerate() {
             self.check_known(*reg, i)?;
@@ -112,26 +108,19 @@ impl VRegAllocator {
         let class = reg.class()?;
         let i = index.checked_sub(PINNED_VREGS)?;
         let vreg = self.vregs.as_slice().get(i)?;
-        if vreg.class.number() == class.number() {
-            Some(i)
-        } else {
-            None
-        }
+        (vreg.class == class).then_some(i)
     }
 
     // The position of a register that has to be allocated; it is the one at `place` among those that were passed.
     fn allocated_at(&self, reg: Reg, place: usize) -> Result<usize, Fault>
-        ensures { Outcome (unless (allocated (parts_in self.now) reg.0) (UnknownReg place)) result (λ i. i ≡ index_of reg.0 - 192) }
+        ensures { Outcome (unallocated_fault (parts_in self.now) reg.0 place) result (λ i. i ≡ index_of reg.0 - 192) }
     {
-        match self.position(reg) {
-            Some(i) => Ok(i),
-            None => Err(Fault::UnknownReg(place)),
-        }
+        self.position(reg).ok_or(Fault::UnknownReg(place))
     }
 
     /// Refuses a word that is not allocated; it is the one at `place` among those that were passed.
     pub fn check_allocated(&self, reg: Reg, place: usize) -> Result<(), Fault>
-        ensures { Outcome (unless (allocated (parts_in self.now) reg.0) (UnknownReg place)) result (λ _. Unit {0}) }
+        ensures { Refuses (unallocated_fault (parts_in self.now) reg.0 place) result }
     {
         self.allocated_at(reg, place)?;
         Ok(())
@@ -151,6 +140,7 @@ impl VRegAllocator {
         ensures rule { (f : File) → Filed self.now f → RootRule f }
     {
         let mut at = reg;
+        // That no alias leads back is not in the type, so the walk is bounded by how many registers there are.
         for _ in 0..self.vregs.len() {
             match self.alias(at) {
                 None => return at,
@@ -162,10 +152,10 @@ impl VRegAllocator {
 
     // Adds a virtual register, for which there has to be room.
     fn add(&mut self, class: RegClass, ty: Type) -> Reg
-        requires { count (parts_in self.old) + 1 ≤ limit_of self.old }
+        requires { count_of self.old + 1 ≤ limit_of self.old }
         ensures vregs { vregs_of self.new ≡ vregs_of self.old ++ record { alias = None; ty = ty; class = class } ∷ [] }
         ensures limit { limit_of self.new ≡ limit_of self.old }
-        ensures word { result.0 ≡ 4 * count (parts_in self.old) + class_number class }
+        ensures word { result.0 ≡ 4 * count_of self.old + class_number class }
     {
         let index = self.count() as u32;
         let word = 4 * index + class.number();
@@ -179,7 +169,7 @@ impl VRegAllocator {
 
     // Refuses where there is no room for so many more registers.
     fn check_room_for(&self, more: usize) -> Result<(), Fault>
-        ensures { Outcome (unless (nat_le (count (parts_in self.now) + more) (limit_of self.now)) (RegsExhausted (count (parts_in self.now)))) result (λ _. Unit {0}) }
+        ensures { Refuses (unless (nat_le (count_of self.now + more) (limit_of self.now)) (RegsExhausted (count_of self.now))) result }
     {
         let count = self.count();
         if count.saturating_add(more) > self.vregs.limit() {
@@ -206,7 +196,7 @@ impl VRegAllocator {
                 let second = self.add(*rc1, types[1]);
                 Ok(ValueRegs::two(first, second))
             }
-            _ => unreachable(),
+            _ => unreachable!(),
         }
     }
 

@@ -1,45 +1,43 @@
 -- The slots of a charged instruction, and a word replaced in it.
-use Rattle.std.proofs.Common.{◌≡◌, ℕ, ◌+◌, ◌<◌, true, false, [], ◌∷◌, length, is_some, Some, sym, ap, ◌∙◌, arith, length-append}
-use Rattle.machinst.proofs.Slots.{nth_in, nth_out, nth_past, nth_push_in, nth_push_last, reworded_push_in, reworded_push_last, reworded_past}
-use Rattle.machinst.specs.Meaning.{Meaning, slot_at, slots_of, with_slots, with_word}
-use Rattle.machinst.specs.Usual.{early_use, in_reg}
-use Rattle.wrappers.specs.Wrapped.{charged_by}
+use Rattle.std.proofs.Common.{◌≡◌, ℕ, zero, suc, ◌-◌, true, false, ◌||◌, eqb, List, [], ◌∷◌, ◌++◌, is_some, Some, None, refl, ap, arith}
+use Rattle.std.specs.List.{slice_get}
+use Rattle.machinst.specs.Meaning.{Slot, reworded, reworded_at}
 
-module _ (w : ℕ) (m : Meaning) (k : ℕ) where
-  long : length (slots_of (charged_by w m)) ≡ length (slots_of m) + 1
-  long = length-append (slots_of m) (early_use in_reg w ∷ [])
+module _ {X : Type 0} where
+  -- a place of a list, and of the list with one more element
+  pub get_push_some : (xs : List X) (y : X) (k : ℕ) (x : X) → slice_get xs k ≡ Some x → slice_get (xs ++ y ∷ []) k ≡ Some x
+  get_push_some [] y k x h = grind arith
+  get_push_some (z ∷ xs) y zero x h = grind arith
+  get_push_some (z ∷ xs) y (suc k) x h = let r = get_push_some xs y k x h in grind arith
 
-  -- a slot that is not below and still exists is the counter's
-  at_counter : is_some (slot_at m k) ≡ false → is_some (slot_at (charged_by w m) k) ≡ true → k ≡ length (slots_of m)
-  at_counter out here =
-      let a = nth_out (slots_of m) k out in
-      let b = nth_in (slots_of (charged_by w m)) k here in
-      omega (arith, long)
+  pub get_push_none : (xs : List X) (y : X) (k : ℕ) → slice_get xs k ≡ None → is_some (slice_get (xs ++ y ∷ []) k) ≡ true → slice_get (xs ++ y ∷ []) k ≡ Some y
+  get_push_none [] y zero h here = refl
+  get_push_none [] y (suc k) h here = grind arith
+  get_push_none (z ∷ xs) y zero h here = grind arith
+  get_push_none (z ∷ xs) y (suc k) h here = let r = get_push_none xs y k h here in grind arith
 
-  past : is_some (slot_at (charged_by w m) k) ≡ false → length (slots_of m) < k
-  past out = let a = nth_out (slots_of (charged_by w m)) k out in omega (arith, long)
+  pub has_push : (xs : List X) (y : X) (k : ℕ) → is_some (slice_get (xs ++ y ∷ []) k) ≡ eqb k 0 || is_some (slice_get xs (k - 1))
+  has_push [] y zero = refl
+  has_push [] y (suc k) = grind arith
+  has_push (x ∷ xs) y zero = refl
+  has_push (x ∷ xs) y (suc zero) = let r = has_push xs y zero in grind arith
+  has_push (x ∷ xs) y (suc (suc k)) = let r = has_push xs y (suc k) in grind arith
 
-  pub slot_below : is_some (slot_at m k) ≡ true → slot_at m k ≡ slot_at (charged_by w m) k
-  slot_below here = sym (nth_push_in (slots_of m) (early_use in_reg w) k (nth_in (slots_of m) k here))
+-- another word in the slot of that place
+pub reworded_push_below : (xs : List Slot) (y : Slot) (k w : ℕ) → is_some (slice_get xs k) ≡ true → reworded_at (xs ++ y ∷ []) k w ≡ reworded_at xs k w ++ y ∷ []
+reworded_push_below [] y k w h = grind arith
+reworded_push_below (x ∷ xs) y zero w h = refl
+reworded_push_below (x ∷ xs) y (suc k) w h = ap {B = List Slot} (λ r. x ∷ r) (reworded_push_below xs y k w h)
 
-  pub slot_counter : is_some (slot_at m k) ≡ false → is_some (slot_at (charged_by w m) k) ≡ true → Some (early_use in_reg w) ≡ slot_at (charged_by w m) k
-  slot_counter out here = sym (nth_push_last (slots_of m) (early_use in_reg w) k (at_counter out here))
+pub reworded_push_last : (xs : List Slot) (y : Slot) (k w : ℕ) → is_some (slice_get xs k) ≡ false → is_some (slice_get (xs ++ y ∷ []) k) ≡ true → reworded_at (xs ++ y ∷ []) k w ≡ xs ++ reworded y w ∷ []
+reworded_push_last [] y zero w h here = refl
+reworded_push_last [] y (suc k) w h here = grind arith
+reworded_push_last (x ∷ xs) y zero w h here = grind arith
+reworded_push_last (x ∷ xs) y (suc k) w h here = ap {B = List Slot} (λ r. x ∷ r) (reworded_push_last xs y k w h here)
 
-  pub slot_absent : is_some (slot_at (charged_by w m) k) ≡ false → slot_at m k ≡ slot_at (charged_by w m) k
-  slot_absent out =
-      let h = past out in
-      nth_past (slots_of m) k (omega arith) ∙ sym (nth_past (slots_of (charged_by w m)) k (omega (arith, long)))
+pub reworded_past : (xs : List Slot) (k w : ℕ) → is_some (slice_get xs k) ≡ false → reworded_at xs k w ≡ xs
+reworded_past [] k w h = refl
+reworded_past (x ∷ xs) zero w h = grind arith
+reworded_past (x ∷ xs) (suc k) w h = ap {B = List Slot} (λ r. x ∷ r) (reworded_past xs k w h)
 
-  module _ (v : ℕ) where
-    pub word_below : is_some (slot_at m k) ≡ true → charged_by w (with_word m k v) ≡ with_word (charged_by w m) k v
-    word_below here =
-        ap (with_slots m) (sym (reworded_push_in (slots_of m) (early_use in_reg w) k v (nth_in (slots_of m) k here)))
-
-    pub word_counter : is_some (slot_at m k) ≡ false → is_some (slot_at (charged_by w m) k) ≡ true → charged_by v m ≡ with_word (charged_by w m) k v
-    word_counter out here =
-        ap (with_slots m) (sym (reworded_push_last (slots_of m) (early_use in_reg w) k v (at_counter out here)))
-
-    pub word_absent : is_some (slot_at (charged_by w m) k) ≡ false → charged_by w m ≡ with_word (charged_by w m) k v
-    word_absent out =
-        let h = past out in
-        ap (with_slots m) (sym (reworded_past (slots_of (charged_by w m)) k v (omega (arith, long))))
+pub ruleset with_counter = (get_push_some, get_push_none, has_push, reworded_push_below, reworded_push_last, reworded_past)

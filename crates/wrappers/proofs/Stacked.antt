@@ -1,9 +1,11 @@
 -- One more wrapper around an instruction under a list of them.
-use Rattle.std.proofs.Common.{◌≡◌, ℕ, Bool, true, false, ◌||◌, List, [], ◌∷◌, ◌++◌, sym, refl, ap, ◌∙◌, subst, append_assoc}
-use Rattle.machinst.specs.Meaning.{Meaning, Slot, slots_of}
+use Rattle.std.proofs.Common.{◌≡◌, ℕ, Bool, ◌||◌, List, [], ◌∷◌, ◌++◌, sym, refl, ap, ◌∙◌, subst, append_assoc, arith}
+use Rattle.machinst.specs.Meaning.{Meaning, Slot}
 use Rattle.machinst.specs.Usual.{early_use, in_reg}
+use Rattle.std.proofs.Math.Bool.{or-false, or_assoc}
+use Rattle.std.proofs.lemmas.Grind.{common_steps}
 use Rattle.std.proofs.lemmas.List.{append-nil}
-use Rattle.machinst.proofs.Bare.{or_false, under_none}
+use Rattle.machinst.proofs.Bare.{under_none}
 use Rattle.machinst.specs.Layers.{Layer, Under, charge, counters, fence, fenced_off}
 use Rattle.wrappers.specs.Wrapped.{charged_by, fenced_by, wrapped}
 
@@ -11,10 +13,6 @@ counters_more : (ls ms : List Layer) → counters (ls ++ ms) ≡ counters ls ++ 
 counters_more [] ms = refl
 counters_more (charge w ∷ ls) ms = ap {B = List Slot} (λ ss. early_use in_reg w ∷ ss) (counters_more ls ms)
 counters_more (fence f ∷ ls) ms = counters_more ls ms
-
-or_assoc : (a b c : Bool) → (a || b) || c ≡ a || (b || c)
-or_assoc true b c = refl
-or_assoc false b c = refl
 
 fenced_more : (ls ms : List Layer) (n : ℕ) → fenced_off (ls ++ ms) n ≡ fenced_off ls n || fenced_off ms n
 fenced_more [] ms n = refl
@@ -24,13 +22,8 @@ fenced_more (fence f ∷ ls) ms n = ap (λ (b : Bool). f n || b) (fenced_more ls
 module _ (ls : List Layer) (bare whole : Meaning) (u : Under ls bare whole) where
   pub under_charge : (w : ℕ) → Under (ls ++ charge w ∷ []) bare (charged_by w whole)
   under_charge w = record {
-    slots =
-        ap (λ (ss : List Slot). ss ++ early_use in_reg w ∷ []) u.slots
-        ∙ append_assoc (slots_of bare) (counters ls) (early_use in_reg w ∷ [])
-        ∙ ap (λ (ss : List Slot). slots_of bare ++ ss) (sym (counters_more ls (charge w ∷ [])));
-    clobbers =
-        λ n. u.clobbers n
-        ∙ ap (λ (b : Bool). bare.operation.clobbers n || b) (sym (fenced_more ls (charge w ∷ []) n ∙ or_false (fenced_off ls n)));
+    slots = let e = u.slots in let h = counters_more ls (charge w ∷ []) in grind (arith, common_steps);
+    clobbers = λ n. let e = u.clobbers n in let h = fenced_more ls (charge w ∷ []) n in grind (arith, or-false);
     move = u.move;
     payload = u.payload;
     control = u.control;
@@ -38,14 +31,8 @@ module _ (ls : List Layer) (bare whole : Meaning) (u : Under ls bare whole) wher
 
   pub under_fence : (f : ℕ → Bool) → Under (ls ++ fence f ∷ []) bare (fenced_by f whole)
   under_fence f = record {
-    slots =
-        u.slots
-        ∙ ap (λ (ss : List Slot). slots_of bare ++ ss) (sym (counters_more ls (fence f ∷ []) ∙ append-nil (counters ls)));
-    clobbers =
-        λ n. ap (λ (b : Bool). b || f n) (u.clobbers n)
-        ∙ or_assoc (bare.operation.clobbers n) (fenced_off ls n) (f n)
-        ∙ ap (λ (b : Bool). bare.operation.clobbers n || b)
-        (sym (fenced_more ls (fence f ∷ []) n ∙ ap (λ (b : Bool). fenced_off ls n || b) (or_false (f n))));
+    slots = let e = u.slots in let h = counters_more ls (fence f ∷ []) in grind (arith, common_steps);
+    clobbers = λ n. let e = u.clobbers n in let h = fenced_more ls (fence f ∷ []) n in grind (arith, or-false, or_assoc);
     move = u.move;
     payload = u.payload;
     control = u.control;

@@ -27,14 +27,18 @@ impl<I: MachInst> MachInst for Charged<I> {
         I::rc_for_type(ty)
     }
 
+    #[tactic(auto, using(crate::proofs::Charging::with_counter))]
     fn slot(&self, k: usize) -> Option<Operand> {
-        let below = self.inner.slot(k);
-        if below.is_none() && self.has_slot(k) {
-            return Some(Operand::early_use(self.counter, OperandConstraint::Reg));
+        match self.inner.slot(k) {
+            None if self.has_slot(k) => Some(Operand::early_use(
+                self.counter,
+                OperandConstraint::Reg,
+            )),
+            below => below,
         }
-        below
     }
 
+    #[tactic(auto, using(crate::proofs::Charging::with_counter))]
     fn has_slot(&self, k: usize) -> bool {
         k == 0 || self.inner.has_slot(k - 1)
     }
@@ -71,6 +75,7 @@ impl<I: MachInst> MachInst for Charged<I> {
         self.inner.payload()
     }
 
+    #[tactic(auto, using(crate::proofs::Charging::with_counter))]
     fn set_slot(&mut self, k: usize, reg: Reg) {
         if self.inner.has_slot(k) {
             self.inner.set_slot(k, reg);

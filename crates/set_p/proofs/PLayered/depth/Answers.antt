@@ -1,6 +1,5 @@
-use Rattle.std.proofs.Common.{refl}
 use Rattle.set_p.proofs.PLayered.depth.Goals as goal
 use Rattle.machinst.proofs.Bare.{under_none}
 
-pub returns : goal.returns
-returns c = record { depth = refl; under = under_none _ }
+pub returns-clause-under : goal.returns-clause-under
+returns-clause-under c = under_none _

@@ -5,4 +5,4 @@ use Rattle.trace.specs.Shown.{members_text}
 
 -- the members below n are written
 abbrev pub invariant-loop-n : goal.invariant-loop-n
-invariant-loop-n l = string_bytes l.out ≡ string_bytes l.initial.out ++ members_text (member l.set) l.n
+invariant-loop-n l = string_bytes l.out ≡ string_bytes l.initial.out ++ members_text (member l.set) l.n-counter

@@ -7,11 +7,11 @@ pub returns : goal.returns
 returns g c =
     let L = capacities c.args.lengths.now in
     record {
-      insts = ap (map g.I.MachInst.meaning) c.in_ok-insts.ensures.0;
-      params = ap (map word_of) c.in_ok-params.ensures.0;
-      succs = c.in_ok-succs.ensures L refl refl;
-      ranges = c.in_ok-ranges.ensures L refl;
-      operand_ranges = c.in_ok-operand_ranges.ensures;
-      most_insts = c.in_ok-insts.ensures.2;
-      most_params = c.in_ok-params.ensures.2;
+      insts = ap (map g.I.MachInst.meaning) (ap (λ t. t.entries) c.in_ok-new.ensures);
+      params = ap (map word_of) (ap (λ t. t.entries) c.in_ok-new-2.ensures);
+      succs = c.in_ok-with_lengths.ensures L refl refl;
+      ranges = c.in_ok-with_length.ensures L refl;
+      operand_ranges = c.in_ok-new-3.ensures;
+      most_insts = ap (λ t. t.limit) c.in_ok-new.ensures;
+      most_params = ap (λ t. t.limit) c.in_ok-new-2.ensures;
     }

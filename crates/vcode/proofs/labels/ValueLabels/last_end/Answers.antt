@@ -1,22 +1,18 @@
-use Rattle.std.proofs.Common.{List, sym, ap, ◌∙◌}
+use Rattle.std.proofs.Common.{eqb, ap, ◌∙◌, rules, tests}
+use Rattle.std.proofs.lemmas.Iterator.Adapters.{YieldsList-from_rev_slice}
+use Rattle.std.proofs.lemmas.Iterator.Search.{find_from_yields_List}
 use Rattle.std.specs.Slice.Iter.{iter_rest}
-use Rattle.std.specs.Iterator.Adapters.{rev_source}
-use Rattle.vcode.proofs.Recorded.{found_before, found_here, found_in, found_nowhere}
+use Rattle.std.specs.Option.{option_map_or}
 use Rattle.vcode.proofs.labels.ValueLabels.last_end.Goals as goal
+use Rattle.vcode.proofs.Recorded.{end_told, found_end}
 use Rattle.vcode.specs.declared.labels.LabelRecord.{LabelRecord}
 
-pub loop-record-init : goal.loop-record-init
-loop-record-init c =
-    let start = ap (λ x. iter_rest (rev_source x)) c.into_iter-record-iterator.ensures.into_iter_gives ∙ ap iter_rest c.rev-record-items.ensures.source ∙ c.iter.ensures.rest ∙ c.as_slice.ensures in
-    ap (λ (xs : List LabelRecord). found_in xs c.args.label.0) (sym start)
-
-pub returns-then-record-label : goal.returns-then-record-label
-returns-then-record-label c =
-    found_here _ _ c.in-Some.record.now c.args.label.0 c.in-Some.ensures.steps c.if-record-label.true ∙ sym c.loop-record.invariant
-
-pub loop-record-preserved : goal.loop-record-preserved
-loop-record-preserved c =
-    c.loop-record.invariant ∙ found_before _ _ c.in-Some.record.now c.args.label.0 c.in-Some.ensures.steps c.if-record-label.false
-
 pub returns : goal.returns
-returns c = sym (c.loop-record.invariant ∙ found_nowhere _ c.args.label.0 c.in-None.ensures.steps.0)
+returns c =
+    let rs = c.args.self.now.records.entries in
+    let l = c.args.label.0 in
+    let start = ap iter_rest c.rev.ensures.source ∙ c.iter.ensures.rest ∙ c.as_slice.ensures in
+    let found = find_from_yields_List (λ (r : LabelRecord). eqb r.label.0 l) _ _ c.find.result c.find.ensures.ran (YieldsList-from_rev_slice rs start) (λ x b q k. search (rules, tests)) in
+    end_told c.find.result c.map_or.result _ c.map_or.ensures (λ x q. search (rules, tests))
+    ∙ ap (λ o. option_map_or (λ (r : LabelRecord). r.end) o 0) found
+    ∙ found_end rs l

@@ -1,20 +1,15 @@
-use Rattle.std.proofs.Common.{length, get_or, set, None, refl, sym, ap, ◌∙◌}
+use Rattle.std.proofs.Common.{get_or, set, None, refl, sym, arith}
 use Rattle.regs.specs.declared.reg.RegClass.TheVariants.{Int}
 use Rattle.std.proofs.lemmas.List.{length-set}
 use Rattle.std.proofs.lemmas.Bool.{eqb-false}
-use Rattle.tables.proofs.Fits.{refitted_is}
+use Rattle.std.proofs.lemmas.Grind.{common_steps}
 use Rattle.tables.specs.Tables.{refitted}
-use Rattle.vregs.proofs.Filing.{accepted, alias_within, aliased, already}
+use Rattle.vregs.proofs.Filing.{accepted, aliased, already}
 use Rattle.vregs.proofs.vregs.VRegAllocator.set_vreg_alias.Goals as goal
 use Rattle.vregs.specs.declared.vregs.VReg.{VReg}
 
 abbrev spare : VReg
 spare = record { alias = None; ty = record { 0 = 0 }; class = Int }
-
-pub bounds-as_slice-i : goal.bounds-as_slice-i
-bounds-as_slice-i c =
-    alias_within c.args.self.now c.args.from.0 c.in_ok-i.i c.as_slice.result.now
-    c.in_ok-i.ensures.0 c.in_ok-i.ensures.1 c.as_slice.ensures
 
 pub returns-then-is_some : goal.returns-then-is_some
 returns-then-is_some c = record {
@@ -25,11 +20,6 @@ returns-then-is_some c = record {
   unchanged = refl;
   limit = refl;
 }
-
-pub bounds-as_mut_slice-i : goal.bounds-as_mut_slice-i
-bounds-as_mut_slice-i c =
-    alias_within c.args.self.now c.args.from.0 c.in_ok-i.i c.as_mut_slice.result.now
-    c.in_ok-i.ensures.0 c.in_ok-i.ensures.1 c.as_mut_slice.ensures.value
 
 pub returns : goal.returns
 returns c =
@@ -43,7 +33,7 @@ returns c =
           c.resolve_vreg_alias-root.ensures.root (eqb-false _ _ (sym c.if-eq.ensures)) c.as_slice.result.now ys
           (record { vregs = refitted c.args.self.now.vregs ws })
           c.as_slice.ensures c.as_mut_slice.ensures.value c.if-is_some.ensures
-          (refitted_is c.args.self.now.vregs ws (length-set ys c.in_ok-i.i v ∙ ap length c.as_mut_slice.ensures.value));
+          (grind (arith, common_steps, length-set ys c.in_ok-i.i v, c.as_mut_slice.ensures.value));
       unchanged = tt;
       limit = refl;
     }

@@ -1,9 +1,0 @@
-use Rattle.std.proofs.Common.{arith}
-use Rattle.std.proofs.lemmas.List.{length-map}
-use Rattle.vregs.proofs.vregs.VRegAllocator.add.Goals as goal
-use Rattle.vregs.specs.Entries.{part_of, vregs_of}
-
-pub returns : goal.returns
-returns c =
-    let same = length-map (vregs_of c.args.self.now) part_of in
-    record { vregs = c.append.ensures.items (omega (arith, c.requires)); limit = c.append.ensures.limit; word = omega (arith, c.count-index.ensures.count, c.number.ensures) }
