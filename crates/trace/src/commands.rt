@@ -80,7 +80,7 @@ impl Head {
         ensures { OnRequest (Takes (show_step self.set self.wrapping (left request.old.words)) result) request.old request.new }
     {
         let wrapping = self.wrapping.unwrap_or(Wrapping::Bare);
-        show(self.set, wrapping, &mut request.words, request.out)?;
+        show(self.set, wrapping, request)?;
         Ok(Stage::Head(self))
     }
 

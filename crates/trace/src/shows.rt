@@ -3,12 +3,13 @@ ghost use Rattle.std.specs.Prelude.{◌≡◌};
 ghost use Rattle.trace.specs.Heads.{wrapping_list};
 ghost use Rattle.trace.specs.Shows.{ShowsBy, ShowsUnder, bare_reader};
 ghost use Rattle.trace.specs.Readers.{left};
+ghost use Rattle.trace.specs.Steps.{OnRequest};
 
 use crate::head::{Set, Wrapping};
 use crate::read::ReadInst;
+use crate::request::Request;
 use crate::show::write_meaning;
 use crate::stop::Stop;
-use crate::words::Words;
 use machinst::inst::MachInst;
 use set_p::P;
 use set_q::Q;
@@ -16,12 +17,12 @@ use wrappers::charged::Charged;
 use wrappers::fenced::Fenced;
 
 // Reads one instruction of this type from all of the words, and writes what it means.
-fn show_as<I: ReadInst + Drop>(words: &mut Words, out: &mut String) -> Result<(), Stop>
-    ensures { ShowsBy I.ReadInst.reads (left words.old) result out.old out.new }
+fn show_as<I: ReadInst + Drop>(request: &mut Request) -> Result<(), Stop>
+    ensures { OnRequest (ShowsBy I.ReadInst.reads (left request.old.words) result) request.old request.new }
 {
-    let inst = I::read(words)?;
-    words.end()?;
-    write_meaning(out, &inst)?;
+    let inst = I::read(&mut request.words)?;
+    request.words.end()?;
+    write_meaning(request.out, &inst)?;
     Ok(())
 }
 
@@ -30,38 +31,29 @@ type Thrice<I> = Charged<Charged<Charged<I>>>;
 
 // The same of a bare instruction of this type under wrappers. Each wrapping is an instruction type of its own.
 #[tactic(auto, using(crate::proofs::Nested::shows_at))]
-fn show_under<B: ReadInst + Copy>(
-    wrapping: Wrapping,
-    words: &mut Words,
-    out: &mut String,
-) -> Result<(), Stop>
-    ensures { ShowsUnder B.ReadInst.reads (wrapping_list wrapping) (left words.old) result out.old out.new }
+fn show_under<B: ReadInst + Copy>(wrapping: Wrapping, request: &mut Request) -> Result<(), Stop>
+    ensures { OnRequest (ShowsUnder B.ReadInst.reads (wrapping_list wrapping) (left request.old.words) result) request.old request.new }
 {
     match wrapping {
-        Wrapping::Bare => show_as::<B>(words, out),
-        Wrapping::Charged => show_as::<Charged<B>>(words, out),
-        Wrapping::Fenced => show_as::<Fenced<B>>(words, out),
-        Wrapping::ChargedTwice => show_as::<Charged<Charged<B>>>(words, out),
-        Wrapping::ChargedFenced => show_as::<Fenced<Charged<B>>>(words, out),
-        Wrapping::FencedCharged => show_as::<Charged<Fenced<B>>>(words, out),
-        Wrapping::FencedTwice => show_as::<Fenced<Fenced<B>>>(words, out),
-        Wrapping::ChargedSix => show_as::<Thrice<Thrice<B>>>(words, out),
-        Wrapping::ChargedSeven => show_as::<Thrice<Thrice<Charged<B>>>>(words, out),
-        Wrapping::ChargedEight => show_as::<Thrice<Thrice<Charged<Charged<B>>>>>(words, out),
+        Wrapping::Bare => show_as::<B>(request),
+        Wrapping::Charged => show_as::<Charged<B>>(request),
+        Wrapping::Fenced => show_as::<Fenced<B>>(request),
+        Wrapping::ChargedTwice => show_as::<Charged<Charged<B>>>(request),
+        Wrapping::ChargedFenced => show_as::<Fenced<Charged<B>>>(request),
+        Wrapping::FencedCharged => show_as::<Charged<Fenced<B>>>(request),
+        Wrapping::FencedTwice => show_as::<Fenced<Fenced<B>>>(request),
+        Wrapping::ChargedSix => show_as::<Thrice<Thrice<B>>>(request),
+        Wrapping::ChargedSeven => show_as::<Thrice<Thrice<Charged<B>>>>(request),
+        Wrapping::ChargedEight => show_as::<Thrice<Thrice<Charged<Charged<B>>>>>(request),
     }
 }
 
 /// Reads one instruction of the set, under these wrappers, from all of the words, and writes what it means.
-pub(crate) fn show(
-    set: Set,
-    wrapping: Wrapping,
-    words: &mut Words,
-    out: &mut String,
-) -> Result<(), Stop>
-    ensures { ShowsUnder (bare_reader set) (wrapping_list wrapping) (left words.old) result out.old out.new }
+pub(crate) fn show(set: Set, wrapping: Wrapping, request: &mut Request) -> Result<(), Stop>
+    ensures { OnRequest (ShowsUnder (bare_reader set) (wrapping_list wrapping) (left request.old.words) result) request.old request.new }
 {
     match set {
-        Set::P => show_under::<P>(wrapping, words, out),
-        Set::Q => show_under::<Q>(wrapping, words, out),
+        Set::P => show_under::<P>(wrapping, request),
+        Set::Q => show_under::<Q>(wrapping, request),
     }
 }

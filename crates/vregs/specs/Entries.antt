@@ -20,6 +20,10 @@ part_of v = record { class = class_number v.class; ty = v.ty.0 }
 abbrev pub vregs_of : VRegAllocator → List VReg
 vregs_of a = a.vregs.entries
 
+-- the same table with other registers in it
+abbrev pub with_vregs : VRegAllocator → List VReg → VRegAllocator
+with_vregs a vs = record { vregs = record a.vregs { entries = vs } }
+
 abbrev pub parts_in : VRegAllocator → List Part
 parts_in a = map part_of (vregs_of a)
 

@@ -6,7 +6,7 @@ ghost use Rattle.regs.specs.Classes.{class_number};
 ghost use Rattle.regs.specs.Parts.{value_regs};
 ghost use Rattle.regs.specs.Words.{index_of};
 ghost use Rattle.std.specs.Option.{option_map};
-ghost use Rattle.vregs.specs.Entries.{Filed, Rooted, alias_in, count_of, limit_of, parts_in, vregs_of, word_of};
+ghost use Rattle.vregs.specs.Entries.{Filed, Rooted, alias_in, count_of, limit_of, parts_in, vregs_of, with_vregs, word_of};
 ghost use Rattle.vregs.specs.Files.{File, Outcome, Refuses, RootRule, alias_fault, alloc_fault, allocated, count, known, new_words, parts_of, unallocated_fault, unknown_fault, unless, with_alias, with_regs};
 ghost use Rattle.vregs.specs.Insts.{first_unknown};
 
@@ -55,8 +55,7 @@ impl VRegAllocator {
 
     /// Lets all virtual registers go.
     pub fn clear(&mut self)
-        ensures vregs { vregs_of self.new ≡ [] }
-        ensures limit { limit_of self.new ≡ limit_of self.old }
+        ensures { self.new ≡ with_vregs self.old [] }
     {
         self.vregs.clear();
     }
@@ -153,8 +152,7 @@ impl VRegAllocator {
     // Adds a virtual register, for which there has to be room.
     fn add(&mut self, class: RegClass, ty: Type) -> Reg
         requires { count_of self.old + 1 ≤ limit_of self.old }
-        ensures vregs { vregs_of self.new ≡ vregs_of self.old ++ record { alias = None; ty = ty; class = class } ∷ [] }
-        ensures limit { limit_of self.new ≡ limit_of self.old }
+        ensures vregs { self.new ≡ with_vregs self.old (vregs_of self.old ++ record { alias = None; ty = ty; class = class } ∷ []) }
         ensures word { result.0 ≡ 4 * count_of self.old + class_number class }
     {
         let index = self.count() as u32;

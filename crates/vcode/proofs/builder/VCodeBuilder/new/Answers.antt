@@ -1,7 +1,7 @@
 use Rattle.std.proofs.Common.{◌≡◌, ℕ, Bool, true, false, cond, List, [], map, None, Option, refl, ap, ◌∙◌}
 use Rattle.vcode.proofs.builder.VCodeBuilder.new.Goals as goal
 use Rattle.vcode.specs.Made.{limits_of}
-use Rattle.vregs.specs.Entries.{alias_in, part_of}
+use Rattle.vregs.specs.Entries.{alias_in, limit_of, part_of, vregs_of}
 use Rattle.vregs.specs.Files.{allocated}
 use Rattle.vregs.specs.declared.vregs.VReg.{VReg}
 
@@ -19,14 +19,14 @@ returns g c =
       c.in_default.ensures.0,
       record {
         file = record {
-          regs = ap (map part_of) c.clear.ensures.vregs;
-          alias = λ w. ap (λ (vs : List VReg). alias_in vs w) c.clear.ensures.vregs ∙ no_alias w;
+          regs = ap (map part_of) (ap vregs_of c.clear.ensures);
+          alias = λ w. ap (λ (vs : List VReg). alias_in vs w) (ap vregs_of c.clear.ensures) ∙ no_alias w;
           valid = tt;
         };
         code = c.clear-2.ensures L (record { insts = refl; blocks = refl; succs = refl; args = refl; params = refl });
         labels = c.clear-3.ensures;
         output = c.clear-4.ensures L (record { operands = refl; preds = refl; labels = refl });
         entry = refl;
-        most_regs = c.clear.ensures.limit;
+        most_regs = ap limit_of c.clear.ensures;
       },
     )

@@ -1,8 +1,9 @@
-use Rattle.std.proofs.Common.{◌≡◌, length, refl, ◌∙◌, arith}
+use Rattle.std.proofs.Common.{◌≡◌, length, refl, ap, ◌∙◌, arith}
 use Rattle.regs.specs.Parts.{value_regs}
 use Rattle.regs.specs.declared.reg.RegClass.TheVariants.{Int}
 use Rattle.regs.specs.declared.reg.«Type».{«Type» as Ty}
 use Rattle.vregs.proofs.Allocations.{granted_one, granted_two, no_room}
+use Rattle.vregs.specs.Entries.{limit_of, vregs_of}
 use Rattle.vregs.proofs.Outcomes.{on_err, outcome_err}
 use Rattle.vregs.proofs.vregs.VRegAllocator.alloc.Goals as goal
 
@@ -26,9 +27,9 @@ returns-in-len1 g c =
     record {
       answer = λ f h. granted_one c.in-Some.classes.now c.in-Some.types.now Int no_type c.args.self.now f h c.args.ty.0 (g.I.MachInst.parts c.args.ty.0)
           c.in-Some.ensures c.in_ok-check_room_for.ensures.0
-          c.add.new.self c.add.result (value_regs c.one.result) c.one.ensures one c.add.ensures.vregs c.add.ensures.word;
+          c.add.new.self c.add.result (value_regs c.one.result) c.one.ensures one (ap vregs_of c.add.ensures.vregs) c.add.ensures.word;
       unchanged = tt;
-      limit = c.add.ensures.limit;
+      limit = ap limit_of c.add.ensures.vregs;
     }
 
 pub returns-in-len2 : goal.returns-in-len2
@@ -38,7 +39,7 @@ returns-in-len2 g c =
       answer = λ f h. granted_two c.in-Some.classes.now c.in-Some.types.now Int no_type c.args.self.now f h c.args.ty.0 (g.I.MachInst.parts c.args.ty.0)
           c.in-Some.ensures c.in_ok-check_room_for.ensures.0
           c.add-first.new.self c.add-second.new.self c.add-first.result c.add-second.result (value_regs c.two.result) c.two.ensures two
-          c.add-first.ensures.vregs c.add-second.ensures.vregs c.add-first.ensures.word c.add-second.ensures.word;
+          (ap vregs_of c.add-first.ensures.vregs) (ap vregs_of c.add-second.ensures.vregs) c.add-first.ensures.word c.add-second.ensures.word;
       unchanged = tt;
-      limit = c.add-second.ensures.limit ∙ c.add-first.ensures.limit;
+      limit = ap limit_of c.add-second.ensures.vregs ∙ ap limit_of c.add-first.ensures.vregs;
     }
