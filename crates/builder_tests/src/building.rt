@@ -5,7 +5,7 @@ use regs::reg::{Reg, Type};
 use set_p::P;
 use vcode::builder::VCodeBuilder;
 use vcode::function_tables::Tables;
-use wrappers::charged::Charged;
+use wrappers::charged::{Charge, Charged};
 
 type Thrice<I> = Charged<Charged<Charged<I>>>;
 
@@ -43,9 +43,10 @@ fn builder<I: MachInst + Drop>(
 }
 
 fn charged_thrice<I>(counter: Reg, inner: I) -> Thrice<I> {
-    let inner = Charged { counter, inner };
-    let inner = Charged { counter, inner };
-    Charged { counter, inner }
+    let wrapper = Charge { counter };
+    let inner = Charged { wrapper, inner };
+    let inner = Charged { wrapper, inner };
+    Charged { wrapper, inner }
 }
 
 // A low-level branch with nine slots, no known word among them, where table 1 has no room.
@@ -84,12 +85,8 @@ pub(crate) fn registers_at_their_most(rt: &HostRuntime) -> bool {
     let Some(mut builder) = builder::<P>(rt, usize::MAX, usize::MAX) else {
         return false;
     };
-    for _ in 192..2_097_150 {
-        if builder.alloc(Type(1)).is_err() {
-            return false;
-        }
-    }
-    refusal(builder.alloc(Type(3))) == Some((2, 2_097_150))
+    (192..2_097_150).all(|_| builder.alloc(Type(1)).is_ok())
+        && refusal(builder.alloc(Type(3))) == Some((2, 2_097_150))
         && refusal(builder.alloc(Type(5))).is_none()
         && refusal(builder.alloc(Type(1))) == Some((2, 2_097_151))
         && refusal(builder.set_vreg_alias(Reg(768), Reg(8_388_600))).is_none()

@@ -41,6 +41,7 @@ pub enum Fault {
 }
 
 impl Fault {
+    // By a match, since an enum whose cases hold values has no discriminants.
     /// The number of the fault.
     pub fn number(self) -> usize
         ensures { result ≡ fault_number self }

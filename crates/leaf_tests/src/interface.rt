@@ -2,7 +2,7 @@ use machinst::inst::MachInst;
 use regs::reg::{Reg, RegClass, Type, Writable};
 use set_p::P;
 use set_q::Q;
-use wrappers::charged::Charged;
+use wrappers::charged::{Charge, Charged};
 use wrappers::fenced::Fenced;
 
 // The number of parts of a type, and the class and the type of the last.
@@ -16,10 +16,8 @@ fn word<I: MachInst>(inst: &I, k: usize) -> Option<u32> {
 }
 
 fn charged<I>(inner: I) -> Charged<I> {
-    Charged {
-        counter: Reg(780),
-        inner,
-    }
+    let wrapper = Charge { counter: Reg(780) };
+    Charged { wrapper, inner }
 }
 
 pub(crate) fn parts_of_types() -> bool {
@@ -59,6 +57,6 @@ pub(crate) fn replacing_one_word() -> bool {
     q.set_slot(3, Reg(808));
     word(&q, 0) == Some(768)
         && word(&q, 1) == Some(800)
-        && q.counter.0 == 804
+        && q.wrapper.counter.0 == 804
         && q.inner.words[2].0 == 776
 }

@@ -1,5 +1,6 @@
-ghost use Rattle.std.specs.Prelude.{◌≡◌, ℕ, ◌+◌, ◌-◌, ◌<◌, ◌≤◌, IfOk, Some, None, MatchResult, OnOk, slice_index};
+ghost use Rattle.std.specs.Prelude.{◌≡◌, ℕ, ◌+◌, ◌-◌, ◌<◌, ◌≤◌, IfOk, MatchResult, OnErr, OnOk, slice_index};
 ghost use Rattle.ranges.specs.Spans.{no_spans, count, endpoints, last_end, range_of, end_fault, with_end, index_reversed, target_fault, reversed_ends, target_reversed};
+ghost use Rattle.faults.specs.Outcomes.{Outcome, Refuses};
 ghost use Rattle.faults.specs.TableIds.{capacity_of};
 ghost use Rattle.faults.specs.declared.fault.Fault.TheVariants.{OutOfRange};
 ghost use Rattle.faults.specs.declared.table_id.TableId.TheVariants.{Ranges as Alone};
@@ -20,7 +21,7 @@ pub struct Ranges {
     reversed: bool,
 }
 
-// Clauses see the ends in the order of storage, which do not fall.
+// Clauses see the ends in the order of storage, which do not fall, how they are numbered, the room, and which table it is.
 impl Model for Ranges {
     ghost use Rattle.ranges.specs.Order.{Rising};
     ghost use Rattle.ranges.specs.Spans.{Spans};
@@ -79,7 +80,7 @@ impl Ranges {
 
     /// Refuses what `push_end` would refuse, with the same fault.
     pub fn check_end(&self, end: u32) -> Result<(), Fault>
-        ensures { MatchResult result (λ _. end_fault self.now end ≡ None) (λ f. end_fault self.now end ≡ Some f) }
+        ensures { Refuses (end_fault self.now end) result }
     {
         if self.reversed || end < self.last_end() {
             return Err(Fault::Mismatch(end as usize));
@@ -89,7 +90,8 @@ impl Ranges {
 
     /// Adds a range from the last end to `end`.
     pub fn push_end(&mut self, end: u32) -> Result<(), Fault>
-        ensures cases { MatchResult result (λ _. (end_fault self.old end ≡ None) × (self.new ≡ with_end self.old end)) (λ f. (end_fault self.old end ≡ Some f) × (self.new ≡ self.old)) }
+        ensures cases { Outcome (end_fault self.old end) result (λ _. self.new ≡ with_end self.old end) }
+        ensures unchanged { OnErr result (self.new ≡ self.old) }
         ensures added { OnOk result ((count self.new ≡ count self.old + 1) × (range_of self.new (count self.old) ≡ (last_end self.old, end))) }
         ensures kept { OnOk result ((k : ℕ) → k < count self.old → range_of self.new k ≡ range_of self.old k) }
     {
@@ -130,7 +132,8 @@ impl Ranges {
 
     /// Follows the reversal of the list of `target_len` entries that the ranges span.
     pub fn reverse_target(&mut self, target_len: u32) -> Result<(), Fault>
-        ensures cases { MatchResult result (λ _. (target_fault self.old target_len ≡ None) × (self.new ≡ target_reversed self.old target_len)) (λ f. (target_fault self.old target_len ≡ Some f) × (self.new ≡ self.old)) }
+        ensures cases { Outcome (target_fault self.old target_len) result (λ _. self.new ≡ target_reversed self.old target_len) }
+        ensures unchanged { OnErr result (self.new ≡ self.old) }
         ensures len { count self.new ≡ count self.old }
         ensures ranges { OnOk result ((k : ℕ) → k < count self.old → range_of self.new k ≡ (target_len - (range_of self.old k).1, target_len - (range_of self.old k).0)) }
     {

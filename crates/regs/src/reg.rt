@@ -63,6 +63,7 @@ impl Reg {
         }
     }
 
+    // A `TryFrom` for the class would be called here alone.
     /// The register's class, unless the word is a spill slot or names no class.
     pub fn class(self) -> Option<RegClass>
         ensures { option_map class_number result ≡ word_class self.0 }

@@ -2,6 +2,7 @@ ghost use Rattle.std.specs.Prelude.{◌≡◌, [], ◌∷◌, length};
 ghost use Rattle.regs.specs.Parts.{value_regs};
 ghost use Rattle.std.specs.List.{slice_get};
 
+// A model as a list does not prove: a `Copy` type has to give its fields back from every list, the empty one too.
 /// The one or two registers that hold a value.
 #[derive(Clone, Copy, Debug, PartialEq, Eq)]
 pub struct ValueRegs<R> {

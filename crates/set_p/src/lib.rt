@@ -112,6 +112,7 @@ impl MachInst for P {
         }
     }
 
+    // The numbers are those of the format.
     fn payload(&self) -> u64 {
         match *self {
             P::Imm { value, .. } => 256 * u64::from(value),
@@ -127,6 +128,7 @@ impl MachInst for P {
         }
     }
 
+    // An or-pattern that binds a `&mut` in several cases does not prove, so each slot has an arm.
     fn set_slot(&mut self, k: usize, reg: Reg) {
         match (self, k) {
             (P::Imm { d, .. }, 0) => d.reg = reg,

@@ -55,6 +55,9 @@ pub struct Row {
     pub pair: Option<(usize, usize)>,
 }
 
+/// In physical register 0.
+const FIXED: OperandConstraint = OperandConstraint::FixedReg(PReg(0));
+
 const USE: Shape = Shape {
     constraint: OperandConstraint::Reg,
     kind: OperandKind::Use,
@@ -62,7 +65,7 @@ const USE: Shape = Shape {
 };
 
 const USE_FIXED: Shape = Shape {
-    constraint: OperandConstraint::FixedReg(PReg(0)),
+    constraint: FIXED,
     ..USE
 };
 
@@ -73,7 +76,7 @@ const DEF: Shape = Shape {
 };
 
 const DEF_FIXED: Shape = Shape {
-    constraint: OperandConstraint::FixedReg(PReg(0)),
+    constraint: FIXED,
     ..DEF
 };
 

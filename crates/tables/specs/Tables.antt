@@ -1,5 +1,5 @@
 -- What a table holds.
-use Rattle.std.specs.Prelude.{ℕ, List, length}
+use Rattle.std.specs.Prelude.{ℕ, List, [], ◌∷◌, ◌++◌, length}
 use Rattle.std.specs.List.{refill}
 use Rattle.faults.specs.declared.table_id.TableId.{TableId}
 
@@ -8,6 +8,10 @@ pub record Contents (T : Type 0) : Type 0 where
   pub entries : List T
   pub id : TableId
   pub limit : ℕ
+
+-- The table with one more entry.
+abbrev pub pushed : {T : Type 0} → Contents T → T → Contents T
+pushed t x = record t { entries = t.entries ++ x ∷ [] }
 
 -- The table after a write of its entries as a slice, which keeps their number.
 abbrev pub refitted : {T : Type 0} → Contents T → List T → Contents T

@@ -1,7 +1,7 @@
 ghost use Rattle.std.specs.Prelude.{◌≡◌, ◌+◌, ◌<◌, ◌≤◌, [], ◌∷◌, ◌++◌, reverse, length, IfOk, MatchResult};
 ghost use Rattle.std.specs.Borrow.{Array, Lends, sem};
 ghost use Rattle.faults.specs.TableIds.{capacity_of};
-ghost use Rattle.tables.specs.Tables.{refitted};
+ghost use Rattle.tables.specs.Tables.{pushed, refitted};
 ghost use Rattle.faults.specs.declared.fault.Fault.TheVariants.{Full};
 
 use faults::fault::Fault;
@@ -84,7 +84,7 @@ impl<T> Table<T> {
 
     /// Adds `x` as the last entry, or hands it back where the table is full.
     pub fn push(&mut self, x: T) -> Result<(), T>
-        ensures { MatchResult result (λ _. (length self.old.entries < self.old.limit) × (self.new ≡ record self.old { entries = self.old.entries ++ x ∷ [] })) (λ y. (length self.old.entries ≡ self.old.limit) × (y ≡ x) × (self.new ≡ self.old)) }
+        ensures { MatchResult result (λ _. (length self.old.entries < self.old.limit) × (self.new ≡ pushed self.old x)) (λ y. (length self.old.entries ≡ self.old.limit) × (y ≡ x) × (self.new ≡ self.old)) }
     {
         if self.items.len() < self.items.capacity() {
             self.items.push_reserved(x);
@@ -98,7 +98,7 @@ impl<T> Table<T> {
     pub fn try_push(&mut self, x: T) -> Result<(), Fault>
     where
         T: Drop,
-        ensures { MatchResult result (λ _. (length self.old.entries < self.old.limit) × (self.new ≡ record self.old { entries = self.old.entries ++ x ∷ [] })) (λ f. (length self.old.entries ≡ self.old.limit) × (f ≡ Full self.old.id) × (self.new ≡ self.old)) }
+        ensures { MatchResult result (λ _. (length self.old.entries < self.old.limit) × (self.new ≡ pushed self.old x)) (λ f. (length self.old.entries ≡ self.old.limit) × (f ≡ Full self.old.id) × (self.new ≡ self.old)) }
     {
         self.push(x).map_err(|_| Fault::Full(self.id))
     }
@@ -107,7 +107,7 @@ impl<T> Table<T> {
     pub fn append(&mut self, x: T)
     where
         T: Drop,
-        ensures added { length self.old.entries < self.old.limit → self.new ≡ record self.old { entries = self.old.entries ++ x ∷ [] } }
+        ensures added { length self.old.entries < self.old.limit → self.new ≡ pushed self.old x }
         ensures full { self.old.limit ≤ length self.old.entries → self.new ≡ self.old }
     {
         let _ = self.push(x);

@@ -1,27 +1,24 @@
 -- Readers of wrapped instructions, one around the other, read the bare instruction and then its layers.
-use Rattle.std.proofs.Common.{◌≡◌, ℕ, List, [], ◌∷◌, Ok, Err, codes, Result, String, sym, refl, ap, ◌∙◌, subst, arith}
+use Rattle.std.proofs.Common.{◌≡◌, ℕ, List, [], ◌∷◌, Ok, Err, Result, String, sym, refl, ap, ◌∙◌, subst, arith}
 use Rattle.machinst.specs.Meaning.{Meaning}
-use Rattle.regs.specs.Sets.{member}
-use Rattle.trace.specs.Shows.{ShowsBy, ShowsUnder, Writes, layered, reads_layer, reads_layers, value, whole}
+use Rattle.trace.specs.Shows.{ShowsBy, ShowsUnder, Writes, layered, reads_layer, reads_layers, reads_own, value, whole}
 use Rattle.trace.specs.declared.head.Wrapper.{Wrapper}
-use Rattle.trace.specs.declared.head.Wrapper.TheVariants.{Charged, Fenced}
 use Rattle.trace.specs.Heads.{wrapping_list}
 use Rattle.trace.specs.declared.head.Wrapping.{Wrapping}
 use Rattle.trace.specs.declared.stop.Stop.{Stop}
 use Rattle.trace.specs.declared.stop.Stop.TheVariants.{Line, Memory}
 use Rattle.std.specs.declared.alloc.Global.{Global}
-use Rattle.trace.specs.Readers.{Read, reads_end, reads_this, then}
+use Rattle.trace.specs.Readers.{Read, reads_end, then}
 use Rattle.trace.specs.declared.reason.Reason.{Reason}
-use Rattle.trace.specs.Insts.{Reader, reads_charged, reads_fenced, reads_reg, reads_set}
-use Rattle.wrappers.proofs.Stacked.{wrapped_under}
-use Rattle.machinst.specs.Layers.{Layer, charge, fence}
-use Rattle.wrappers.specs.Wrapped.{charged_by, fenced_by, wrapped}
+use Rattle.trace.specs.Insts.{Reader, reads_wrapped}
+use Rattle.wrappers.proofs.Stacked.{first_layer, wrapped_under}
+use Rattle.machinst.specs.Layers.{Layer}
+use Rattle.wrappers.specs.Wrapped.{wrapped}
 
 -- the readers one around the other, the innermost first
 abbrev pub nested : List Wrapper → Reader → Reader
 nested [] bare = bare
-nested (Charged ∷ ks) bare = nested ks (reads_charged bare)
-nested (Fenced ∷ ks) bare = nested ks (reads_fenced bare)
+nested (k ∷ ks) bare = nested ks (reads_wrapped (reads_own k) bare)
 
 module _ {A B C : Type 0} where
   then_assoc : (r : Read A) (f : A → List (List ℕ) → Read B) (g : B → List (List ℕ) → Read C) → then (then r f) g ≡ then r (λ a ws. then (f a ws) g)
@@ -40,11 +37,6 @@ then_unit : {A : Type 0} (r : Read A) → then r (λ a ws. Ok (a, ws)) ≡ r
 then_unit (Ok (a, ws)) = refl
 then_unit (Err e) = refl
 
--- one more wrapper around a meaning, and then the others
-first_layer : (l : Layer) (ls : List Layer) (m : Meaning) → wrapped (l ∷ ls) m ≡ wrapped ls (wrapped (l ∷ []) m)
-first_layer (charge w) ls m = refl
-first_layer (fence f) ls m = refl
-
 -- one layer and then the others
 layer_first : (ks : List Wrapper) (k : Wrapper) (m : Meaning) (ws : List (List ℕ)) → over (k ∷ ks) m ws ≡ then (reads_layer k ws) (λ l ws. over ks (wrapped (l ∷ []) m) ws)
 layer_first ks k m ws =
@@ -54,31 +46,13 @@ layer_first ks k m ws =
     then_assoc (reads_layers ks ws) (λ ls ws. Ok (l ∷ ls, ws)) (λ ls ws. Ok (wrapped ls m, ws))
     ∙ then_same (reads_layers ks ws) _ _ (λ ls ws. ap {B = Read Meaning} (λ (n : Meaning). Ok (n, ws)) (first_layer l ls m)))
 
--- a word and a value after it, and what is made of the value
-module _ {A B C D : Type 0} (p : Read A) (q : List (List ℕ) → Read B) (f : B → C) (h : C → List (List ℕ) → Read D) where
-  two : then (then p (λ u ws. then (q ws) (λ b ws. Ok (f b, ws)))) h ≡ then p (λ u ws. then (q ws) (λ b ws. h (f b) ws))
-  two =
-      then_assoc p (λ u ws. then (q ws) (λ b ws. Ok (f b, ws))) h
-      ∙ then_same p _ _ (λ u ws. then_assoc (q ws) (λ b ws. Ok (f b, ws)) h)
-
 nested_is : (ks : List Wrapper) (bare : Reader) (ws : List (List ℕ)) → nested ks bare ws ≡ then (bare ws) (over ks)
 nested_is [] bare ws = sym (then_unit (bare ws))
-nested_is (Charged ∷ ks) bare ws =
-    nested_is ks (reads_charged bare) ws
+nested_is (k ∷ ks) bare ws =
+    nested_is ks (reads_wrapped (reads_own k) bare) ws
     ∙ then_assoc (bare ws) _ (over ks)
     ∙ then_same (bare ws) _ _
-    (λ m ws.
-    two (reads_this (codes "+") ws) reads_reg (λ c. charged_by c.0 m) (over ks)
-    ∙ sym (two (reads_this (codes "+") ws) reads_reg (λ c. charge c.0) (λ l ws. over ks (wrapped (l ∷ []) m) ws))
-    ∙ sym (layer_first ks Charged m ws))
-nested_is (Fenced ∷ ks) bare ws =
-    nested_is ks (reads_fenced bare) ws
-    ∙ then_assoc (bare ws) _ (over ks)
-    ∙ then_same (bare ws) _ _
-    (λ m ws.
-    two (reads_this (codes "+") ws) reads_set (λ f. fenced_by (member f) m) (over ks)
-    ∙ sym (two (reads_this (codes "+") ws) reads_set (λ f. fence (member f)) (λ l ws. over ks (wrapped (l ∷ []) m) ws))
-    ∙ sym (layer_first ks Fenced m ws))
+    (λ m ws. then_assoc (reads_layer k ws) (λ l ws. Ok (wrapped (l ∷ []) m, ws)) (over ks) ∙ sym (layer_first ks k m ws))
 
 abbrev mapped_ok : {A B : Type 0} → (A → B) → Result A Reason → Result B Reason
 mapped_ok f (Ok a) = Ok (f a)

@@ -1,6 +1,7 @@
 -- How a script writes an instruction: its name and its numbers, and for each wrapper, the innermost first, a `+` and its
 -- own numbers.
 use Rattle.std.specs.Prelude.{ℕ, cond, List, [], ◌∷◌, Ok, Err, codes}
+use Rattle.machinst.specs.Layers.{Layer, charge, fence}
 use Rattle.machinst.specs.Meaning.{Meaning}
 use Rattle.regs.specs.Sets.{member}
 use Rattle.regs.specs.declared.preg_set.PRegSet.{PRegSet}
@@ -14,7 +15,7 @@ use Rattle.set_q.specs.declared.Q.{Q}
 use Rattle.std.specs.Str.{bytes_eq}
 use Rattle.trace.specs.Readers.{Read, reads_number, reads_this, reads_word, then}
 use Rattle.trace.specs.declared.reason.Reason.TheVariants.{UnknownWord}
-use Rattle.wrappers.specs.Wrapped.{charged_by, fenced_by}
+use Rattle.wrappers.specs.Wrapped.{wrapped}
 
 abbrev pub reads_reg : List (List ℕ) → Read Reg
 reads_reg ws = then (reads_number 32 ws) (λ w ws. Ok (record { 0 = w }, ws))
@@ -80,14 +81,17 @@ bare_p ws = then (reads_p ws) (λ p ws. Ok (meaning_p p, ws))
 abbrev pub bare_q : Reader
 bare_q ws = then (reads_q ws) (λ q ws. Ok (meaning_q q, ws))
 
--- a charged instruction: the one below, `+`, and the counter's word
-abbrev pub reads_charged : Reader → Reader
-reads_charged below ws =
-    then (below ws)
-    (λ m ws. then (reads_this (codes "+") ws) (λ u ws. then (reads_reg ws) (λ counter ws. Ok (charged_by counter.0 m, ws))))
+-- the numbers of a wrapper: the counter's word, or the three words of the fence
+abbrev pub reads_charge : List (List ℕ) → Read Layer
+reads_charge ws = then (reads_reg ws) (λ counter ws. Ok (charge counter.0, ws))
 
--- a fenced one: the one below, `+`, and the three words of the fence
-abbrev pub reads_fenced : Reader → Reader
-reads_fenced below ws =
-    then (below ws)
-    (λ m ws. then (reads_this (codes "+") ws) (λ u ws. then (reads_set ws) (λ fence ws. Ok (fenced_by (member fence) m, ws))))
+abbrev pub reads_fence : List (List ℕ) → Read Layer
+reads_fence ws = then (reads_set ws) (λ f ws. Ok (fence (member f), ws))
+
+-- what a wrapper adds in the words: a `+`, and its own numbers
+abbrev pub reads_added : (List (List ℕ) → Read Layer) → List (List ℕ) → Read Layer
+reads_added own ws = then (reads_this (codes "+") ws) (λ u ws. own ws)
+
+-- a wrapped instruction: the one below, and what the wrapper adds
+abbrev pub reads_wrapped : (List (List ℕ) → Read Layer) → Reader → Reader
+reads_wrapped own below ws = then (below ws) (λ m ws. then (reads_added own ws) (λ l ws. Ok (wrapped (l ∷ []) m, ws)))

@@ -1,7 +1,6 @@
 -- What `show` answers: the text of the instruction that its words write.
-use Rattle.std.specs.Prelude.{◌≡◌, ℕ, ◌^◌, ◌<◌, List, [], ◌∷◌, ◌++◌, length, Ok, Err, string_bytes, codes, Result, String}
+use Rattle.std.specs.Prelude.{◌≡◌, ℕ, ◌^◌, ◌<◌, List, [], ◌∷◌, ◌++◌, length, Ok, Err, string_bytes, Result, String}
 use Rattle.machinst.specs.Meaning.{Meaning, slots_of}
-use Rattle.regs.specs.Sets.{member}
 use Rattle.trace.specs.declared.head.Set.{Set}
 use Rattle.trace.specs.declared.head.Set.TheVariants as set
 use Rattle.trace.specs.declared.head.Wrapper.{Wrapper}
@@ -9,11 +8,11 @@ use Rattle.trace.specs.declared.head.Wrapper.TheVariants.{Charged, Fenced}
 use Rattle.trace.specs.declared.stop.Stop.{Stop}
 use Rattle.trace.specs.declared.stop.Stop.TheVariants.{Line, Memory}
 use Rattle.std.specs.declared.alloc.Global.{Global}
-use Rattle.trace.specs.Readers.{Read, reads_end, reads_this, then}
+use Rattle.trace.specs.Readers.{Read, reads_end, then}
 use Rattle.trace.specs.declared.reason.Reason.{Reason}
-use Rattle.trace.specs.Insts.{Reader, bare_p, bare_q, reads_reg, reads_set}
+use Rattle.trace.specs.Insts.{Reader, bare_p, bare_q, reads_added, reads_charge, reads_fence}
 use Rattle.trace.specs.Shown.{shown_text}
-use Rattle.machinst.specs.Layers.{Layer, Under, charge, fence}
+use Rattle.machinst.specs.Layers.{Layer, Under}
 use Rattle.wrappers.specs.Wrapped.{wrapped}
 
 -- what is read where nothing is left
@@ -34,10 +33,14 @@ ShowsBy reads ws (Ok u) before after = (m : Meaning) × (whole reads ws ≡ Ok m
 ShowsBy reads ws (Err (Line e)) before after = (whole reads ws ≡ Err e) × (after ≡ before)
 ShowsBy reads ws (Err Memory) before after = Unit {0}
 
+-- the numbers of this wrapper
+abbrev pub reads_own : Wrapper → List (List ℕ) → Read Layer
+reads_own Charged = reads_charge
+reads_own Fenced = reads_fence
+
 -- what a wrapper adds in the words: a `+`, and its own numbers
 abbrev pub reads_layer : Wrapper → List (List ℕ) → Read Layer
-reads_layer Charged ws = then (reads_this (codes "+") ws) (λ u ws. then (reads_reg ws) (λ counter ws. Ok (charge counter.0, ws)))
-reads_layer Fenced ws = then (reads_this (codes "+") ws) (λ u ws. then (reads_set ws) (λ f ws. Ok (fence (member f), ws)))
+reads_layer k = reads_added (reads_own k)
 
 -- what each wrapper adds, the innermost first
 abbrev pub reads_layers : List Wrapper → List (List ℕ) → Read (List Layer)

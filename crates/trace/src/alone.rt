@@ -10,7 +10,7 @@ use faults::fault::Fault;
 use ranges::ranges::Ranges;
 use std::alloc::AllocError;
 
-/// A call on a range table.
+/// A call on a range table, as a value that its answer is defined for.
 #[derive(Clone, Copy)]
 pub enum RangesCall {
     PushEnd(u32),

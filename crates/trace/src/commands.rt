@@ -68,7 +68,7 @@ impl Head {
             return Err(Stop::Line(Reason::NotHere));
         }
         let wrappers = read_wrappers(request.heap, &mut request.words)?;
-        let wrapping = Wrapping::of(&wrappers).ok_or(Reason::UnsupportedWrappers)?;
+        let wrapping = Wrapping::try_from(wrappers.as_slice())?;
         Ok(Stage::Head(Head {
             wrapping: Some(wrapping),
             ..self

@@ -1,7 +1,10 @@
 //! The head of a script: the set, the wrappers and the lengths of the tables.
-ghost use Rattle.std.specs.Prelude.{◌≡◌, Some, None, MatchResult};
+ghost use Rattle.std.specs.Prelude.{◌≡◌};
+ghost use Rattle.faults.specs.Outcomes.{Refuses};
 ghost use Rattle.trace.specs.Heads.{Lists, new_fault, reads_lengths, reads_set, set_named, wrapper_named, wrappers_of, wrapping_of};
 ghost use Rattle.trace.specs.Readers.{Gives, left};
+ghost use Rattle.trace.specs.declared.reason.Reason.TheVariants.{UnsupportedWrappers};
+ghost use Rattle.std.specs.Option.{ok_or};
 
 use crate::reason::Reason;
 use crate::stop::Stop;
@@ -89,25 +92,27 @@ pub(crate) fn read_wrappers(heap: Global, words: &mut Words) -> Result<Vec<Wrapp
     Ok(wrappers)
 }
 
-impl Wrapping {
-    /// The wrapping that a list of wrappers is, where instructions under it can be run.
-    pub(crate) fn of(wrappers: &[Wrapper]) -> Option<Wrapping>
-        ensures { result ≡ wrapping_of wrappers.now }
-    {
+/// The wrapping that a list of wrappers is, where instructions under it can be run.
+impl TryFrom<&[Wrapper]> for Wrapping {
+    type Error = Reason;
+
+    ghost try_from_gives = { λ wrappers r. r ≡ ok_or (wrapping_of wrappers.now) UnsupportedWrappers };
+
+    fn try_from(wrappers: &[Wrapper]) -> Result<Wrapping, Reason> {
         use Wrapper::Charged as C;
         use Wrapper::Fenced as F;
         match wrappers {
-            [] => Some(Wrapping::Bare),
-            [C] => Some(Wrapping::Charged),
-            [F] => Some(Wrapping::Fenced),
-            [C, C] => Some(Wrapping::ChargedTwice),
-            [C, F] => Some(Wrapping::ChargedFenced),
-            [F, C] => Some(Wrapping::FencedCharged),
-            [F, F] => Some(Wrapping::FencedTwice),
-            [C, C, C, C, C, C] => Some(Wrapping::ChargedSix),
-            [C, C, C, C, C, C, C] => Some(Wrapping::ChargedSeven),
-            [C, C, C, C, C, C, C, C] => Some(Wrapping::ChargedEight),
-            _ => None,
+            [] => Ok(Wrapping::Bare),
+            [C] => Ok(Wrapping::Charged),
+            [F] => Ok(Wrapping::Fenced),
+            [C, C] => Ok(Wrapping::ChargedTwice),
+            [C, F] => Ok(Wrapping::ChargedFenced),
+            [F, C] => Ok(Wrapping::FencedCharged),
+            [F, F] => Ok(Wrapping::FencedTwice),
+            [C, C, C, C, C, C] => Ok(Wrapping::ChargedSix),
+            [C, C, C, C, C, C, C] => Ok(Wrapping::ChargedSeven),
+            [C, C, C, C, C, C, C, C] => Ok(Wrapping::ChargedEight),
+            _ => Err(Reason::UnsupportedWrappers),
         }
     }
 }
@@ -132,9 +137,9 @@ pub(crate) fn read_lengths(words: &mut Words) -> Result<Lengths, Reason>
     Ok(lengths)
 }
 
-/// Refuses a register table that has no room for the physical registers.
+/// Refuses lengths whose register table would have no room for the physical registers; there is no table yet.
 pub(crate) fn check_lengths(lengths: &Lengths) -> Result<(), Fault>
-    ensures { MatchResult result (λ _. new_fault lengths.now ≡ None) (λ f. new_fault lengths.now ≡ Some f) }
+    ensures { Refuses (new_fault lengths.now) result }
 {
     if lengths.registers < PINNED_VREGS {
         Err(Fault::Full(TableId::Registers))

@@ -19,6 +19,7 @@ pub trait Unsigned: TryFrom<u64, Error = TryFromIntError> {
     ghost holds: { (bits ≤ 64) × ((n : ℕ) (r : _) → Self.try_from_gives n r → MatchResult r (λ x. (n < 2 ^ bits) × (value x ≡ n)) (λ _. 2 ^ bits ≤ n)) };
 }
 
+// One impl for each type: the library has no public trait of integers that states their range.
 impl Unsigned for u8 {
     ghost bits = { 8 };
 

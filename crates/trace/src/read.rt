@@ -1,7 +1,8 @@
 //! Instructions as a script writes them.
-ghost use Rattle.std.specs.Prelude.{◌≡◌};
-ghost use Rattle.trace.specs.Readers.{Gives, GivesBy};
-ghost use Rattle.trace.specs.Insts.{Reader, bare_p, bare_q, reads_charged, reads_fenced, reads_reg, reads_set, reads_written};
+ghost use Rattle.std.specs.Prelude.{◌≡◌, ℕ, List};
+ghost use Rattle.machinst.specs.Layers.{Layer};
+ghost use Rattle.trace.specs.Readers.{Gives, GivesBy, Read};
+ghost use Rattle.trace.specs.Insts.{Reader, bare_p, bare_q, reads_charge, reads_fence, reads_reg, reads_set, reads_wrapped, reads_written};
 
 use crate::reason::Reason;
 use crate::words::Words;
@@ -10,8 +11,9 @@ use regs::preg_set::PRegSet;
 use regs::reg::{Reg, Writable};
 use set_p::P;
 use set_q::Q;
-use wrappers::charged::Charged;
-use wrappers::fenced::Fenced;
+use wrappers::charged::Charge;
+use wrappers::fenced::Fence;
+use wrappers::wrapped::{Wrapped, Wrapper};
 
 /// An instruction that can be read from the words of a line.
 pub trait ReadInst: MachInst + Sized {
@@ -20,6 +22,15 @@ pub trait ReadInst: MachInst + Sized {
 
     fn read(words: &mut Words) -> Result<Self, Reason>
         ensures { GivesBy Self.MachInst.meaning reads words.old result words.new };
+}
+
+/// A wrapper that can be read from the words of a line.
+pub trait ReadWrapper: Wrapper + Sized {
+    // What the wrapper adds that some words write, and the words that are left.
+    ghost reads: { List (List ℕ) → Read Layer };
+
+    fn read(words: &mut Words) -> Result<Self, Reason>
+        ensures { GivesBy Self.Wrapper.layer reads words.old result words.new };
 }
 
 fn read_reg(words: &mut Words) -> Result<Reg, Reason>
@@ -57,29 +68,34 @@ impl ReadInst for Q {
     }
 }
 
-impl<I: ReadInst + Drop> ReadInst for Charged<I> {
-    ghost reads = { reads_charged I.ReadInst.reads };
+impl ReadWrapper for Charge {
+    ghost reads = { reads_charge };
 
-    fn read(words: &mut Words) -> Result<Charged<I>, Reason> {
-        let inner = I::read(words)?;
-        words.expect(b"+")?;
-        Ok(Charged {
+    fn read(words: &mut Words) -> Result<Charge, Reason> {
+        Ok(Charge {
             counter: read_reg(words)?,
-            inner,
         })
     }
 }
 
-impl<I: ReadInst + Drop> ReadInst for Fenced<I> {
-    ghost reads = { reads_fenced I.ReadInst.reads };
+impl ReadWrapper for Fence {
+    ghost reads = { reads_fence };
 
-    fn read(words: &mut Words) -> Result<Fenced<I>, Reason> {
+    fn read(words: &mut Words) -> Result<Fence, Reason> {
+        Ok(Fence {
+            fence: read_set(words)?,
+        })
+    }
+}
+
+impl<W: ReadWrapper, I: ReadInst + Drop> ReadInst for Wrapped<W, I> {
+    ghost reads = { reads_wrapped W.ReadWrapper.reads I.ReadInst.reads };
+
+    fn read(words: &mut Words) -> Result<Wrapped<W, I>, Reason> {
         let inner = I::read(words)?;
         words.expect(b"+")?;
-        Ok(Fenced {
-            fence: read_set(words)?,
-            inner,
-        })
+        let wrapper = W::read(words)?;
+        Ok(Wrapped { wrapper, inner })
     }
 }
 

@@ -18,7 +18,7 @@ const NEWLINE: u8 = b'\n';
 #[derive(Drop)]
 struct Session {
     heap: Global,
-    // How many lines were read.
+    // How many lines were read, or the most that there is a number for.
     line: u64,
     stage: Stage,
 }

@@ -7,7 +7,7 @@ ghost use Rattle.trace.specs.Shown.{Appends, clobbers_text, inst_text, members_t
 use machinst::inst::MachInst;
 use machinst::operand::Operand;
 use regs::preg_set::PRegSet;
-use regs::reg::PReg;
+use regs::reg::{PINNED_VREGS, PReg};
 use std::alloc::AllocError;
 
 fn write_move(out: &mut String, pair: Option<(usize, usize)>) -> Result<(), AllocError>
@@ -19,7 +19,7 @@ fn write_move(out: &mut String, pair: Option<(usize, usize)>) -> Result<(), Allo
     }
 }
 
-// Writes the line of what an instruction is, but for its registers.
+// Writes the first line of an instruction: all but its clobbers and its slots.
 fn write_inst<I: MachInst>(out: &mut String, i: usize, inst: &I) -> Result<(), AllocError>
     ensures { Appends result out.old out.new (inst_text i (I.meaning inst.now) ++ newline) }
 {
@@ -41,7 +41,8 @@ fn write_inst<I: MachInst>(out: &mut String, i: usize, inst: &I) -> Result<(), A
 fn write_members(out: &mut String, set: PRegSet) -> Result<(), AllocError>
     ensures { Appends result out.old out.new (members_text (member set) 192) }
 {
-    for n in 0..192u8 {
+    // A `filter` before the loop is no shorter, and needs a proof about the filtered list.
+    for n in 0..PINNED_VREGS as u8 {
         if set.contains(PReg(n)) {
             write!(out, " {n}")?;
         }
@@ -85,6 +86,7 @@ fn write_slot(
 fn write_slots<I: MachInst>(out: &mut String, i: usize, inst: &I) -> Result<(), AllocError>
     ensures { length (slots_of (I.meaning inst.now)) < 2 ^ 64 → Appends result out.old out.new (slots_text i (codes "slot") 0 (slots_of (I.meaning inst.now))) }
 {
+    // By number, as the interface lends slots: an iterator over them does not prove.
     for k in 0..usize::MAX {
         let Some(slot) = inst.slot(k) else {
             return Ok(());

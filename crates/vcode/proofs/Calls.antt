@@ -13,7 +13,8 @@ use Rattle.vcode.specs.declared.code.Code.{Code}
 use Rattle.vcode.specs.declared.labels.ValueLabels.{ValueLabels}
 use Rattle.vregs.specs.Entries.{Filed, limit_of}
 use Rattle.vregs.specs.declared.vregs.VRegAllocator.{VRegAllocator}
-use Rattle.vregs.specs.Files.{File, Outcome}
+use Rattle.faults.specs.Outcomes.{Outcome}
+use Rattle.vregs.specs.Files.{File}
 
 -- the book with another listing
 abbrev pub with_listing : Book → Listing → Book

@@ -1,5 +1,5 @@
 -- Where the ranges of the blocks and of the successors end.
-use Rattle.std.proofs.Common.{◌≡◌, ℕ, ◌+◌, ◌≤◌, Bool, cond, ltb, List, [], ◌∷◌, ◌++◌, length, get_or, Some, None, Ok, Err, Result, IsErrAnd, sym, refl, ap, ◌∙◌, arith, MatchResult}
+use Rattle.std.proofs.Common.{◌≡◌, ℕ, ◌+◌, ◌≤◌, Bool, cond, ltb, List, [], ◌∷◌, ◌++◌, length, get_or, Some, None, Ok, Err, Result, IsErrAnd, sym, refl, ap, ◌∙◌, arith}
 use Rattle.faults.specs.declared.fault.Fault.{Fault}
 use Rattle.faults.specs.declared.fault.Fault.TheVariants.{Full, Mismatch}
 use Rattle.faults.specs.declared.table_id.TableId.{TableId}
@@ -10,7 +10,7 @@ use Rattle.std.proofs.lemmas.Bool.{le-ltb}
 use Rattle.std.specs.List.{flat_map}
 use Rattle.vcode.specs.Book.{Block, Limits, block_room, full}
 use Rattle.vregs.proofs.Outcomes.{outcome_err}
-use Rattle.vregs.specs.Files.{Outcome}
+use Rattle.faults.specs.Outcomes.{Outcome}
 use Rattle.vcode.specs.Held.{ends_of, ranges_to, totals}
 
 -- there is a total for each entry, and the last is that of all
@@ -32,9 +32,9 @@ end_fault_is es most id e h =
     ap (λ (t : Bool). cond t (Some (Mismatch e)) (cond (ltb (length es) most) None (Some (Full id)))) (le-ltb e (get_or (endpoints es) (length es) 0) h)
 
 -- what an end that is not refused leaves
-pub end_pushed : (s : Spans) (e : ℕ) (r : Result (Unit {0}) Fault) (now : Spans) (U : Type 0) → MatchResult r (λ _. (end_fault s e ≡ None) × (now ≡ with_end s e)) (λ f. (end_fault s e ≡ Some f) × U) → end_fault s e ≡ None → now ≡ with_end s e
-end_pushed s e (Ok u) now U h n = h.1
-end_pushed s e (Err f) now U h n = let some = h.0 in cc
+pub end_pushed : (s : Spans) (e : ℕ) (r : Result (Unit {0}) Fault) (now : Spans) → Outcome (end_fault s e) r (λ _. now ≡ with_end s e) → end_fault s e ≡ None → now ≡ with_end s e
+end_pushed s e (Ok u) now h n = h.1
+end_pushed s e (Err f) now h n = cc
 
 module _ {X : Type 0} (f : Block → List X) (L : Limits) (bs : List Block) (b : Block) (s : Spans) (e : ℕ) (held : s ≡ ranges_to (ends_of f bs) L.blocks Blocks) (is : e ≡ length (flat_map f (b ∷ bs))) where
   -- one more block is refused only for want of room
@@ -48,8 +48,8 @@ module _ {X : Type 0} (f : Block → List X) (L : Limits) (bs : List Block) (b :
   refused_is r P y exit refused = outcome_err _ r P y exit (sym room_is ∙ refused)
 
   -- and is then closed
-  pub closed_is : (r : Result (Unit {0}) Fault) (now : Spans) (U : Type 0) → MatchResult r (λ _. (end_fault s e ≡ None) × (now ≡ with_end s e)) (λ g. (end_fault s e ≡ Some g) × U) → block_room L bs ≡ None → now ≡ ranges_to (ends_of f (b ∷ bs)) L.blocks Blocks
-  closed_is r now U h n =
-      end_pushed s e r now U h (room_is ∙ n)
+  pub closed_is : (r : Result (Unit {0}) Fault) (now : Spans) → Outcome (end_fault s e) r (λ _. now ≡ with_end s e) → block_room L bs ≡ None → now ≡ ranges_to (ends_of f (b ∷ bs)) L.blocks Blocks
+  closed_is r now h n =
+      end_pushed s e r now h (room_is ∙ n)
       ∙ ap (λ (t : Spans). with_end t e) held
       ∙ ap (λ (k : ℕ). ranges_to (ends_of f bs ++ k ∷ []) L.blocks Blocks) is

@@ -5,7 +5,7 @@ use Rattle.faults.specs.declared.fault.Fault.TheVariants.{Full}
 use Rattle.faults.specs.declared.table_id.TableId.{TableId}
 use Rattle.std.proofs.lemmas.Bool.{le-ltb, lt-ltb}
 use Rattle.vcode.specs.Book.{full}
-use Rattle.vregs.specs.Files.{Outcome, or_else, unless}
+use Rattle.faults.specs.Outcomes.{Outcome, or_else, unless}
 
 pub has_room : (used limit : ℕ) (u : TableId) → used < limit → full used limit u ≡ None
 has_room used limit u h = ap (λ (b : Bool). unless b (Full u)) (lt-ltb used limit h)

@@ -7,7 +7,7 @@ use Rattle.faults.specs.declared.table_id.TableId.{TableId}
 use Rattle.tables.specs.declared.table.Table.{Table}
 use Rattle.vcode.proofs.Outcomes.{has_room, is_full}
 use Rattle.vcode.specs.Book.{full}
-use Rattle.vregs.specs.Files.{Outcome}
+use Rattle.faults.specs.Outcomes.{Outcome}
 
 module _ {X Y : Type 0} (f : X → Y) where
   pub held_length : (xs : List X) (ys : List Y) → map f xs ≡ reverse ys → length ys ≡ length xs

@@ -8,7 +8,8 @@ use Rattle.faults.specs.declared.table_id.TableId.TheVariants.{Registers, Insts,
 use Rattle.machinst.specs.Meaning.{Meaning}
 use Rattle.machinst.specs.Parts.{Parts}
 use Rattle.std.specs.List.{flat_map}
-use Rattle.vregs.specs.Files.{File, alias_fault, alloc_fault, count, new_file, new_words, or_else, parts_of, unallocated_fault, unknown_fault, unless, with_alias, with_regs}
+use Rattle.faults.specs.Outcomes.{or_else, unless}
+use Rattle.vregs.specs.Files.{File, alias_fault, alloc_fault, count, new_file, new_words, parts_of, unallocated_fault, unknown_fault, with_alias, with_regs}
 use Rattle.vregs.specs.Insts.{first_unknown, inst_fault}
 
 -- A successor: the block that it names, and its arguments in the order given.

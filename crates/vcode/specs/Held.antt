@@ -15,7 +15,7 @@ use Rattle.vcode.specs.declared.labels.ValueLabels.{ValueLabels}
 use Rattle.vcode.specs.declared.succs.Succs.{Succs}
 use Rattle.vcode.specs.declared.function_tables.OutputTables.{OutputTables}
 use Rattle.vregs.specs.Entries.{word_of}
-use Rattle.vregs.specs.Files.{Outcome}
+use Rattle.faults.specs.Outcomes.{Outcome}
 
 abbrev pub block_of : BlockIndex → ℕ
 block_of b = b.0

@@ -6,7 +6,8 @@ use faults::table_id::TableId;
 use ranges::ranges::Ranges;
 use std::alloc::{AllocError, Global};
 
-/// What belongs to each block: its instructions, successors and parameters, and room for its predecessors.
+/// What belongs to each block: its instructions, successors and parameters, and room for its predecessors; a list each, as in
+/// the original.
 #[derive(Drop)]
 pub struct BlockRanges {
     insts: Ranges,
@@ -24,7 +25,7 @@ impl BlockRanges {
     ghost use Rattle.faults.specs.TableIds.{capacity_of};
     ghost use Rattle.vcode.specs.Book.{Block, Limits, block_room};
     ghost use Rattle.vcode.specs.Held.{Contents, RangesHeld};
-    ghost use Rattle.vregs.specs.Files.{Outcome};
+    ghost use Rattle.faults.specs.Outcomes.{Outcome};
 
     // No blocks, with room for `length`, or for the most that there can be where that is fewer.
     pub(crate) fn with_length(heap: Global, length: usize) -> Result<BlockRanges, AllocError>

@@ -9,7 +9,7 @@ use machinst::inst::MachInst;
 use regs::reg::{Reg, Type};
 use regs::value_regs::ValueRegs;
 
-/// A call on a builder.
+/// A call on a builder, as a value that can be compared with the calls of the book.
 #[derive(Drop)]
 pub enum Call<I> {
     Alloc(Type),

@@ -27,7 +27,7 @@ impl Succs {
     ghost use Rattle.vcode.specs.Held.{Changes, SuccsHeld};
     ghost use Rattle.vregs.specs.Entries.{word_of};
     ghost use Rattle.faults.specs.declared.fault.Fault.TheVariants.{Full};
-    ghost use Rattle.vregs.specs.Files.{Refuses, or_else, unless};
+    ghost use Rattle.faults.specs.Outcomes.{Refuses, or_else, unless};
 
     // No successors, with room for so many and so many arguments, or for the most that there can be where that is fewer.
     pub(crate) fn with_lengths(heap: Global, succs: usize, args: usize) -> Result<Succs, AllocError>

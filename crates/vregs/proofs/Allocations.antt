@@ -11,7 +11,8 @@ use Rattle.regs.specs.declared.reg.«Type».{«Type» as Ty}
 use Rattle.std.proofs.lemmas.List.{get_or-map, length-map, length_push}
 use Rattle.std.specs.Option.{option_map}
 use Rattle.vregs.specs.Entries.{Filed, limit_of, part_of, parts_in, vregs_of, word_of}
-use Rattle.vregs.specs.Files.{File, alloc_by, count, new_words, part_list, parts_of, unless, with_regs}
+use Rattle.faults.specs.Outcomes.{unless}
+use Rattle.vregs.specs.Files.{File, alloc_by, count, new_words, part_list, parts_of, with_regs}
 use Rattle.vregs.specs.declared.vregs.VReg.{VReg}
 use Rattle.vregs.specs.declared.vregs.VRegAllocator.{VRegAllocator}
 use Rattle.vregs.proofs.Filing.{filed_push}

@@ -8,7 +8,8 @@ use Rattle.std.proofs.lemmas.List.{get_or_past, get_or-set_other, get_or-set_sam
 use Rattle.std.proofs.lemmas.Bool.{cases_eq, cases_lt, cond-true}
 use Rattle.std.specs.Option.{option_map}
 use Rattle.vregs.specs.Entries.{Filed, Rooted, alias_in, entry_alias, part_of, parts_in, vregs_of, word_of}
-use Rattle.vregs.specs.Files.{File, alias_fault, allocated, count, unless, with_alias, with_regs}
+use Rattle.faults.specs.Outcomes.{unless}
+use Rattle.vregs.specs.Files.{File, alias_fault, allocated, count, with_alias, with_regs}
 use Rattle.vregs.specs.Roots.{alias_of, root}
 use Rattle.vregs.specs.declared.vregs.VReg.{VReg}
 use Rattle.vregs.specs.declared.vregs.VRegAllocator.{VRegAllocator}

@@ -6,7 +6,8 @@ use Rattle.machinst.specs.Meaning.{Meaning, slots_of}
 use Rattle.regs.specs.Words.{index_of}
 use Rattle.std.proofs.lemmas.Bool.{ltb-false, ne_eqb}
 use Rattle.std.specs.List.{slice_get}
-use Rattle.vregs.specs.Files.{File, Outcome, alias_fault, allocated, or_else, unless}
+use Rattle.faults.specs.Outcomes.{Outcome, or_else, unless}
+use Rattle.vregs.specs.Files.{File, alias_fault, allocated}
 use Rattle.vregs.specs.Insts.{first_unknown, inst_fault, move_fault, slot_words}
 use Rattle.vregs.specs.Roots.{alias_of, root}
 use Rattle.vregs.proofs.Scans.{nth_test}

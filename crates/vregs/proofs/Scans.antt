@@ -6,7 +6,8 @@ use Rattle.std.proofs.lemmas.List.{drop_all, drop_more}
 use Rattle.std.proofs.lemmas.Option.{slice_get-get_or, slice_get_past}
 use Rattle.std.proofs.lemmas.Bool.{cases_lt, le-ltb, lt-ltb}
 use Rattle.std.specs.List.{slice_get}
-use Rattle.vregs.specs.Files.{known, unless}
+use Rattle.faults.specs.Outcomes.{unless}
+use Rattle.vregs.specs.Files.{known}
 use Rattle.vregs.specs.Insts.{first_unknown}
 
 pub nth_test : {X : Type 0} (xs : List X) (i : ℕ) → is_some (slice_get xs i) ≡ ltb i (length xs)

@@ -1,5 +1,6 @@
 -- The register file: what is allocated, which words are known, and what each call on the file answers and leaves.
 use Rattle.std.specs.Prelude.{◌≡◌, ℕ, ◌+◌, ◌-◌, ◌*◌, ◌%◌, Bool, true, false, cond, not, ◌&&◌, List, [], ◌∷◌, ◌++◌, length, is_some, Some, None, Ok, Err, Option, Result, MatchOption, ◌==◌, ◌≢◌, nat_le, nat_lt}
+use Rattle.faults.specs.Outcomes.{or_else, unless}
 use Rattle.faults.specs.declared.fault.Fault.{Fault}
 use Rattle.faults.specs.declared.fault.Fault.TheVariants.{RegsExhausted, UnsupportedType, UnknownReg, AliasCycle, AlreadyAliased}
 use Rattle.machinst.specs.Parts.{Part, Parts}
@@ -37,30 +38,12 @@ has_class (Some p) c = p.class == c
 abbrev pub allocated : List Part → ℕ → Bool
 allocated rs w = known (count rs) w && has_class (reg_at rs (index_of w)) (w % 4)
 
--- a call that this fault refuses was refused with it; an accepted one left what P says
-abbrev pub Outcome : {X : Type 0} → Option Fault → Result X Fault → (X → Type 0) → Type 0
-Outcome o (Ok x) P = (o ≡ None) × P x
-Outcome o (Err f) P = o ≡ Some f
-
--- the same of a check, which leaves nothing
-abbrev pub Refuses : Option Fault → Result (Unit {0}) Fault → Type 0
-Refuses o r = Outcome o r (λ _. Unit {0})
-
--- a fault unless the test holds
-abbrev pub unless : Bool → Fault → Option Fault
-unless b f = cond b None (Some f)
-
 -- the word passed at a place is not known where there are n registers, or is not allocated
 abbrev pub unknown_fault : ℕ → ℕ → ℕ → Option Fault
 unknown_fault n w place = unless (known n w) (UnknownReg place)
 
 abbrev pub unallocated_fault : List Part → ℕ → ℕ → Option Fault
 unallocated_fault rs w place = unless (allocated rs w) (UnknownReg place)
-
--- the first of two faults
-abbrev pub or_else : Option Fault → Option Fault → Option Fault
-or_else None o = o
-or_else (Some f) o = Some f
 
 abbrev pub part_list : Parts → List Part
 part_list (one p) = p ∷ []

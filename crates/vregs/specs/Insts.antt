@@ -5,7 +5,8 @@ use Rattle.faults.specs.declared.fault.Fault.TheVariants.{UnknownReg, LowLevelBr
 use Rattle.machinst.specs.Meaning.{Meaning, Slot, slots_of}
 use Rattle.regs.specs.Words.{physical}
 use Rattle.std.specs.List.{slice_get}
-use Rattle.vregs.specs.Files.{known, or_else, unless}
+use Rattle.faults.specs.Outcomes.{or_else, unless}
+use Rattle.vregs.specs.Files.{known}
 
 -- the first of these words that is not known, its place counted from k
 abbrev pub first_unknown : ℕ → ℕ → List ℕ → Option Fault

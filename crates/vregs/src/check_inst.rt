@@ -2,7 +2,7 @@
 ghost use Rattle.machinst.specs.Meaning.{slots_of};
 ghost use Rattle.std.specs.Prelude.{◌<◌, length};
 ghost use Rattle.vregs.specs.Entries.{count_of};
-ghost use Rattle.vregs.specs.Files.{Refuses};
+ghost use Rattle.faults.specs.Outcomes.{Refuses};
 ghost use Rattle.vregs.specs.Insts.{first_unknown, inst_fault, move_fault, slot_fault, slot_words};
 
 use crate::vregs::VRegAllocator;
@@ -32,6 +32,7 @@ impl VRegAllocator {
     fn check_slots<I: MachInst>(&self, inst: &I) -> Result<(), Fault>
         ensures { length (slots_of (I.meaning inst.now)) < 9 → Refuses (first_unknown (count_of self.now) 0 (slot_words (I.meaning inst.now))) result }
     {
+        // By number, as the interface lends slots: an iterator over them does not prove.
         for k in 0..MAX_SLOTS {
             if let Some(slot) = inst.slot(k) {
                 self.check_known(slot.reg, k)?;

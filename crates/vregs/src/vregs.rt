@@ -7,7 +7,8 @@ ghost use Rattle.regs.specs.Parts.{value_regs};
 ghost use Rattle.regs.specs.Words.{index_of};
 ghost use Rattle.std.specs.Option.{option_map};
 ghost use Rattle.vregs.specs.Entries.{Filed, Rooted, alias_in, count_of, limit_of, parts_in, vregs_of, with_vregs, word_of};
-ghost use Rattle.vregs.specs.Files.{File, Outcome, Refuses, RootRule, alias_fault, alloc_fault, allocated, count, known, new_words, parts_of, unallocated_fault, unknown_fault, unless, with_alias, with_regs};
+ghost use Rattle.faults.specs.Outcomes.{Outcome, Refuses, unless};
+ghost use Rattle.vregs.specs.Files.{File, RootRule, alias_fault, alloc_fault, allocated, count, known, new_words, parts_of, unallocated_fault, unknown_fault, with_alias, with_regs};
 ghost use Rattle.vregs.specs.Insts.{first_unknown};
 
 use faults::fault::Fault;
@@ -165,7 +166,8 @@ impl VRegAllocator {
         Reg(word)
     }
 
-    // Refuses where there is no room for so many more registers.
+    // Refuses where there is no room for so many more registers. Unlike a table's own check it counts the physical registers,
+    // and gives their count as the place.
     fn check_room_for(&self, more: usize) -> Result<(), Fault>
         ensures { Refuses (unless (nat_le (count_of self.now + more) (limit_of self.now)) (RegsExhausted (count_of self.now))) result }
     {

@@ -39,5 +39,3 @@ pub reworded_past : (xs : List Slot) (k w : ℕ) → is_some (slice_get xs k) �
 reworded_past [] k w h = refl
 reworded_past (x ∷ xs) zero w h = grind arith
 reworded_past (x ∷ xs) (suc k) w h = ap {B = List Slot} (λ r. x ∷ r) (reworded_past xs k w h)
-
-pub ruleset with_counter = (get_push_some, get_push_none, has_push, reworded_push_below, reworded_push_last, reworded_past)

@@ -1,2 +1,3 @@
 pub mod Charging
+pub mod Parts
 pub mod Stacked

@@ -31,6 +31,17 @@ within_longer : (r : Option (ℕ × ℕ)) (n k : ℕ) → IfSome r (λ p. (p.0 <
 within_longer None n k h = tt
 within_longer (Some p) n k h = (omega arith, omega arith)
 
--- a move's slots still exist under one more
-pub charged_moves : (w : ℕ) (m : Meaning) → MoveWithin m → MoveWithin (charged_by w m)
-charged_moves w m h = rw length-append (within_longer m.operation.move (length (slots_of m)) 1 h)
+-- a move's slots still exist under one more wrapper
+pub wrapped_moves : (l : Layer) (m : Meaning) → MoveWithin m → MoveWithin (wrapped (l ∷ []) m)
+wrapped_moves (charge w) m h = rw length-append (within_longer m.operation.move (length (slots_of m)) 1 h)
+wrapped_moves (fence f) m h = h
+
+-- the counter's word, where the wrapper reads one
+abbrev pub counter_of : Layer → Option ℕ
+counter_of (charge w) = Some w
+counter_of (fence f) = None
+
+-- the wrapper with another counter, where it reads one
+abbrev pub recounted : Layer → ℕ → Layer
+recounted (charge v) w = charge w
+recounted (fence f) w = fence f

@@ -3,3 +3,4 @@
 
 pub mod charged;
 pub mod fenced;
+pub mod wrapped;

@@ -9,7 +9,7 @@ returns-in_ok-writeln-in-Ok c = (
   refl,
   (
     text new_text,
-    read_as _ c.in_ok-lengths.lengths _ _ c.in_ok-lengths.ensures ∙ ap tables_step c.in-Ok.ensures,
+    read_as _ c.in_ok-lengths.lengths _ _ c.in_ok-lengths.ensures ∙ ap tables_step c.in-Ok.ensures.0,
     c.in_ok-writeln-in-Ok.ensures.bytes,
   ),
 )

@@ -18,12 +18,12 @@ pub returns-clause-answer : goal.returns-clause-answer
 returns-clause-answer c =
     let a = c.args.self.now in
     λ L bs b h t.
-    let free = sym (room_is (λ x. x.insts) L bs b a.insts c.args.insts h.insts t.insts_all) ∙ c.in_ok-check_end.ensures in (
+    let free = sym (room_is (λ x. x.insts) L bs b a.insts c.args.insts h.insts t.insts_all) ∙ c.in_ok-check_end.ensures.0 in (
       free,
       record {
-        insts = closed_is (λ x. x.insts) L bs b a.insts c.args.insts h.insts t.insts_all c.push_end.result _ _ c.push_end.ensures.cases free;
-        succs = closed_is (λ x. x.succs) L bs b a.succs c.args.succs h.succs t.succs_all c.push_end-2.result _ _ c.push_end-2.ensures.cases free;
-        params = closed_is (λ x. x.params) L bs b a.params c.args.params h.params t.params_all c.push_end-3.result _ _ c.push_end-3.ensures.cases free;
+        insts = closed_is (λ x. x.insts) L bs b a.insts c.args.insts h.insts t.insts_all c.push_end.result _ c.push_end.ensures.cases free;
+        succs = closed_is (λ x. x.succs) L bs b a.succs c.args.succs h.succs t.succs_all c.push_end-2.result _ c.push_end-2.ensures.cases free;
+        params = closed_is (λ x. x.params) L bs b a.params c.args.params h.params t.params_all c.push_end-3.result _ c.push_end-3.ensures.cases free;
         preds = h.preds;
       },
     )

@@ -9,7 +9,8 @@ use Rattle.vcode.specs.Book.{after, all_insts, record_fault, with_label}
 use Rattle.vcode.specs.Book.Answer.{done}
 use Rattle.vcode.specs.Book.Call.{label}
 use Rattle.vcode.specs.Held.{LabelsHeld}
-use Rattle.vregs.specs.Files.{Outcome, count, unknown_fault}
+use Rattle.faults.specs.Outcomes.{Outcome}
+use Rattle.vregs.specs.Files.{count, unknown_fault}
 
 pub returns-clause-answer : goal.returns-clause-answer
 returns-clause-answer g c =

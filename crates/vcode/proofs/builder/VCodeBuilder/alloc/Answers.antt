@@ -8,7 +8,8 @@ use Rattle.vcode.specs.Book.Answer.{words}
 use Rattle.vcode.specs.Book.Call.{alloc}
 use Rattle.vcode.specs.Past.{words_in}
 use Rattle.vregs.specs.Entries.{Filed, word_of}
-use Rattle.vregs.specs.Files.{Outcome, alloc_fault, count, new_words, parts_of, with_regs}
+use Rattle.faults.specs.Outcomes.{Outcome}
+use Rattle.vregs.specs.Files.{alloc_fault, count, new_words, parts_of, with_regs}
 
 pub returns-clause-answer : goal.returns-clause-answer
 returns-clause-answer g c =

@@ -14,7 +14,7 @@ use Rattle.vcode.specs.Book.{Limits, Succ, flat_args, full, succ_room}
 use Rattle.vcode.specs.Held.{SuccsHeld, arg_ends, block_of, ranges_to}
 use Rattle.vcode.specs.declared.succs.Succs.{Succs}
 use Rattle.vregs.specs.Entries.{word_of}
-use Rattle.vregs.specs.Files.{or_else, unless}
+use Rattle.faults.specs.Outcomes.{or_else, unless}
 
 module _ (s : Succs) (L : Limits) (ss : List Succ) (h : SuccsHeld s L ss) (args : List Reg) where
   many_blocks : length ss ≡ length s.blocks.entries
@@ -62,7 +62,7 @@ returns-clause-answer c =
         blocks = held_push block_of s.blocks.entries _ (map (λ x. x.block) ss) c.args.block h.blocks (ap (λ t. t.entries) (c.append.ensures.added fits.0));
         args = now;
         arg_ranges =
-            end_pushed s.arg_ranges c.len.result c.push_end.result _ _ c.push_end.ensures.cases accepted
+            end_pushed s.arg_ranges c.len.result c.push_end.result _ c.push_end.ensures.cases accepted
             ∙ ap (λ (t : Spans). with_end t c.len.result) h.arg_ranges
             ∙ ap (λ (k : ℕ). ranges_to (arg_ends ss ++ k ∷ []) L.succs OfSuccs) end;
         most_succs = ap (λ t. t.limit) (c.append.ensures.added fits.0) ∙ h.most_succs;
