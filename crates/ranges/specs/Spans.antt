@@ -3,6 +3,7 @@ use Rattle.std.specs.Prelude.{ℕ, ◌-◌, Bool, false, cond, not, List, [], �
 use Rattle.faults.specs.declared.fault.Fault.{Fault}
 use Rattle.faults.specs.declared.fault.Fault.TheVariants.{Full, Mismatch}
 use Rattle.faults.specs.declared.table_id.TableId.{TableId}
+use denote.RawPtr.{Ptr}
 
 -- What a list of ranges is: the end of each range in storage, whether the ranges are numbered from the last, how many there is room for, and which table it is.
 pub record Spans : Type 0 where
@@ -10,6 +11,11 @@ pub record Spans : Type 0 where
   pub reversed : Bool
   pub most : ℕ
   pub id : TableId
+
+-- Ranges, and where in memory their ends stand.
+pub record Placed : Type 0 where
+  pub spans : Spans
+  pub block : Ptr
 
 -- No ranges, numbered from the first.
 abbrev pub no_spans : TableId → ℕ → Spans

@@ -21,14 +21,15 @@ pub struct Ranges {
     reversed: bool,
 }
 
-// Clauses see the ends in the order of storage, which do not fall, how they are numbered, the room, and which table it is.
+// Clauses see the ends in the order of storage, which do not fall, how they are numbered, the room, which table it is, and
+// where in memory the ends stand.
 impl Model for Ranges {
     ghost use Rattle.ranges.specs.Order.{Rising};
-    ghost use Rattle.ranges.specs.Spans.{Spans};
+    ghost use Rattle.ranges.specs.Spans.{Placed};
 
-    ghost Value = { Spans };
+    ghost Value = { Placed };
 
-    ghost view = { λ r. record { ends = r.ends.entries; reversed = r.reversed; most = r.ends.limit; id = r.ends.id } };
+    ghost view = { λ r. record { spans = record { ends = r.ends.entries; reversed = r.reversed; most = r.ends.limit; id = r.ends.id }; block = r.ends.block } };
 
     ghost invariant = { λ r. Rising r.ends.entries };
 }
@@ -36,7 +37,7 @@ impl Model for Ranges {
 impl Ranges {
     /// No ranges, with room for `length`, or for the most that `id` allows where that is fewer.
     pub fn new(heap: Global, id: TableId, length: usize) -> Result<Ranges, AllocError>
-        ensures { IfOk result (λ s. s ≡ no_spans id (capacity_of id length)) }
+        ensures { IfOk result (λ s. s.spans ≡ no_spans id (capacity_of id length)) }
     {
         let ends = Table::new(heap, id, length)?;
         Ok(Ranges {
@@ -47,29 +48,29 @@ impl Ranges {
 
     /// No ranges, in a list that is used alone, with room for `length`, or for the most that such a list can have.
     pub fn alone(heap: Global, length: usize) -> Result<Ranges, AllocError>
-        ensures { IfOk result (λ s. s ≡ no_spans Alone (capacity_of Alone length)) }
+        ensures { IfOk result (λ s. s.spans ≡ no_spans Alone (capacity_of Alone length)) }
     {
         Ranges::new(heap, TableId::Ranges, length)
     }
 
     /// The number of ranges.
     pub fn len(&self) -> usize
-        ensures { result ≡ count self.now }
+        ensures { result ≡ count self.now.spans }
     {
         self.ends.len()
     }
 
     /// The end of the last range in storage, or 0 where there is none.
     pub fn last_end(&self) -> u32
-        ensures { result ≡ last_end self.now }
+        ensures { result ≡ last_end self.now.spans }
     {
         self.endpoint(self.len())
     }
 
     // Endpoint `k`: 0, or the end of the range before it in storage.
     fn endpoint(&self, k: usize) -> u32
-        requires { k ≤ count self.now }
-        ensures { result ≡ slice_index (endpoints self.now.ends) k }
+        requires { k ≤ count self.now.spans }
+        ensures { result ≡ slice_index (endpoints self.now.spans.ends) k }
     {
         if k == 0 {
             0
@@ -80,7 +81,7 @@ impl Ranges {
 
     /// Refuses what `push_end` would refuse, with the same fault.
     pub fn check_end(&self, end: u32) -> Result<(), Fault>
-        ensures { Refuses (end_fault self.now end) result }
+        ensures { Refuses (end_fault self.now.spans end) result }
     {
         if self.reversed || end < self.last_end() {
             return Err(Fault::Mismatch(end as usize));
@@ -90,10 +91,10 @@ impl Ranges {
 
     /// Adds a range from the last end to `end`.
     pub fn push_end(&mut self, end: u32) -> Result<(), Fault>
-        ensures cases { Outcome (end_fault self.old end) result (λ _. self.new ≡ with_end self.old end) }
+        ensures cases { Outcome (end_fault self.old.spans end) result (λ _. self.new.spans ≡ with_end self.old.spans end) }
         ensures unchanged { OnErr result (self.new ≡ self.old) }
-        ensures added { OnOk result ((count self.new ≡ count self.old + 1) × (range_of self.new (count self.old) ≡ (last_end self.old, end))) }
-        ensures kept { OnOk result ((k : ℕ) → k < count self.old → range_of self.new k ≡ range_of self.old k) }
+        ensures added { OnOk result ((count self.new.spans ≡ count self.old.spans + 1) × (range_of self.new.spans (count self.old.spans) ≡ (last_end self.old.spans, end))) }
+        ensures kept { OnOk result ((k : ℕ) → k < count self.old.spans → range_of self.new.spans k ≡ range_of self.old.spans k) }
     {
         self.check_end(end)?;
         self.ends.append(end);
@@ -102,8 +103,8 @@ impl Ranges {
 
     /// The start and the end of range `index`.
     pub fn get(&self, index: usize) -> Result<(u32, u32), Fault>
-        ensures cases { MatchResult result (λ p. (index < count self.now) × (p ≡ range_of self.now index)) (λ f. (count self.now ≤ index) × (f ≡ OutOfRange index)) }
-        ensures within { IfOk result (λ p. (p.0 ≤ p.1) × (p.1 ≤ last_end self.now)) }
+        ensures cases { MatchResult result (λ p. (index < count self.now.spans) × (p ≡ range_of self.now.spans index)) (λ f. (count self.now.spans ≤ index) × (f ≡ OutOfRange index)) }
+        ensures within { IfOk result (λ p. (p.0 ≤ p.1) × (p.1 ≤ last_end self.now.spans)) }
     {
         let n = self.len();
         if index >= n {
@@ -115,7 +116,7 @@ impl Ranges {
 
     /// Removes all ranges, and numbers those to come from the first.
     pub fn clear(&mut self)
-        ensures { self.new ≡ no_spans self.old.id self.old.most }
+        ensures { self.new.spans ≡ no_spans self.old.spans.id self.old.spans.most }
     {
         self.ends.clear();
         self.reversed = false;
@@ -123,19 +124,19 @@ impl Ranges {
 
     /// Numbers the ranges from the other end.
     pub fn reverse_index(&mut self)
-        ensures stored { self.new ≡ index_reversed self.old }
-        ensures len { count self.new ≡ count self.old }
-        ensures ranges { (k : ℕ) → k < count self.old → range_of self.new k ≡ range_of self.old (count self.old - 1 - k) }
+        ensures stored { self.new.spans ≡ index_reversed self.old.spans }
+        ensures len { count self.new.spans ≡ count self.old.spans }
+        ensures ranges { (k : ℕ) → k < count self.old.spans → range_of self.new.spans k ≡ range_of self.old.spans (count self.old.spans - 1 - k) }
     {
         self.reversed = !self.reversed;
     }
 
     /// Follows the reversal of the list of `target_len` entries that the ranges span.
     pub fn reverse_target(&mut self, target_len: u32) -> Result<(), Fault>
-        ensures cases { Outcome (target_fault self.old target_len) result (λ _. self.new ≡ target_reversed self.old target_len) }
+        ensures cases { Outcome (target_fault self.old.spans target_len) result (λ _. self.new.spans ≡ target_reversed self.old.spans target_len) }
         ensures unchanged { OnErr result (self.new ≡ self.old) }
-        ensures len { count self.new ≡ count self.old }
-        ensures ranges { OnOk result ((k : ℕ) → k < count self.old → range_of self.new k ≡ (target_len - (range_of self.old k).1, target_len - (range_of self.old k).0)) }
+        ensures len { count self.new.spans ≡ count self.old.spans }
+        ensures ranges { OnOk result ((k : ℕ) → k < count self.old.spans → range_of self.new.spans k ≡ (target_len - (range_of self.old.spans k).1, target_len - (range_of self.old.spans k).0)) }
     {
         if target_len != self.last_end() {
             return Err(Fault::Mismatch(target_len as usize));

@@ -16,14 +16,16 @@ pub struct Table<T> {
     id: TableId,
 }
 
-// Clauses see the entries, which table it is, and the room for entries: the capacity of `items`, which never changes.
+// Clauses see the entries, which table it is, the room for entries, which is the capacity of `items` and never changes, and
+// where in memory the entries stand.
 impl<T> Model for Table<T> {
     ghost use Rattle.std.specs.Prelude.{◌≤◌, vec_capacity};
+    ghost use Rattle.std.specs.Vec.{vec_ptr};
     ghost use Rattle.tables.specs.Tables.{Contents};
 
     ghost Value = { Contents T };
 
-    ghost view = { λ t. record { entries = t.items.items; id = t.id; limit = vec_capacity t.items } };
+    ghost view = { λ t. record { entries = t.items.items; id = t.id; limit = vec_capacity t.items; block = vec_ptr t.items } };
 
     ghost invariant = { λ t. vec_capacity t.items ≤ 2097151 };
 }
@@ -33,7 +35,7 @@ impl<T> Table<T> {
 
     /// An empty table for `length` entries, or for the most that `id` allows where that is fewer.
     pub fn new(heap: Global, id: TableId, length: usize) -> Result<Table<T>, AllocError>
-        ensures { IfOk result (λ t. t ≡ record { entries = []; id = id; limit = capacity_of id length }) }
+        ensures { IfOk result (λ t. t ≡ record { entries = []; id = id; limit = capacity_of id length; block = t.block }) }
     {
         let items = Vec::with_capacity(heap, id.capacity(length))?;
         Ok(Table { items, id })
@@ -132,7 +134,7 @@ impl<T> Table<T> {
     pub fn clear(&mut self)
     where
         T: Drop,
-        ensures { self.new ≡ record self.old { entries = [] } }
+        ensures { self.new ≡ record self.old { entries = []; block = self.new.block } }
     {
         self.items.clear();
     }
@@ -147,7 +149,7 @@ impl<T> Table<T> {
 
     /// Reverses the order of the entries.
     pub fn reverse(&mut self)
-        ensures { self.new ≡ record self.old { entries = reverse self.old.entries } }
+        ensures { self.new ≡ record self.old { entries = reverse self.old.entries; block = self.new.block } }
     {
         self.items.reverse();
     }

@@ -38,7 +38,7 @@ abbrev pub place_of : Stage → Place
 place_of stage.Start = start
 place_of (stage.Head h) = head h.set h.wrapping
 place_of stage.Function = function
-place_of (stage.Alone r) = alone r
+place_of (stage.Alone r) = alone r.spans
 place_of stage.Over = over
 
 -- What a line is answered: nothing, a text, or what an instruction means.

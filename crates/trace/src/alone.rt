@@ -67,8 +67,8 @@ pub(crate) fn answer_call(
     call: RangesCall,
     out: &mut String,
 ) -> Result<(), AllocError>
-    ensures after { ranges.new ≡ after_call ranges.old call }
-    ensures answer { Appends result out.old out.new (call_text ranges.old call) }
+    ensures after { ranges.new.spans ≡ after_call ranges.old.spans call }
+    ensures answer { Appends result out.old out.new (call_text ranges.old.spans call) }
 {
     match call {
         RangesCall::PushEnd(end) => write_done(out, ranges.push_end(end)),

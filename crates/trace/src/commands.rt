@@ -99,7 +99,7 @@ impl Head {
 
 // A call on a range table used alone.
 fn alone_command(ranges: &mut Ranges, request: &mut Request) -> Result<(), Stop>
-    ensures { OnRequest (Changes (alone_step ranges.old (left request.old.words)) result ranges.old ranges.new) request.old request.new }
+    ensures { OnRequest (Changes (alone_step ranges.old.spans (left request.old.words)) result ranges.old.spans ranges.new.spans) request.old request.new }
 {
     let call = read_call(&mut request.words)?;
     answer_call(ranges, call, request.out)?;

@@ -50,16 +50,16 @@ pub record Contents (bs : List Block) (insts succs params : ℕ) : Type 0 where
 
 -- these blocks were closed, the last one first
 pub record RangesHeld (r : BlockRanges) (L : Limits) (bs : List Block) : Type 0 where
-  pub insts : r.insts ≡ ranges_to (ends_of (λ b. b.insts) bs) L.blocks Blocks
-  pub succs : r.succs ≡ ranges_to (ends_of (λ b. b.succs) bs) L.blocks Blocks
-  pub params : r.params ≡ ranges_to (ends_of (λ b. b.params) bs) L.blocks Blocks
-  pub preds : r.preds ≡ no_spans Blocks L.blocks
+  pub insts : r.insts.spans ≡ ranges_to (ends_of (λ b. b.insts) bs) L.blocks Blocks
+  pub succs : r.succs.spans ≡ ranges_to (ends_of (λ b. b.succs) bs) L.blocks Blocks
+  pub params : r.params.spans ≡ ranges_to (ends_of (λ b. b.params) bs) L.blocks Blocks
+  pub preds : r.preds.spans ≡ no_spans Blocks L.blocks
 
 -- these successors were added, the last one first
 pub record SuccsHeld (s : Succs) (L : Limits) (ss : List Succ) : Type 0 where
   pub blocks : map block_of s.blocks.entries ≡ reverse (map (λ x. x.block) ss)
   pub args : map word_of s.args.entries ≡ flat_args ss
-  pub arg_ranges : s.arg_ranges ≡ ranges_to (arg_ends ss) L.succs OfSuccs
+  pub arg_ranges : s.arg_ranges.spans ≡ ranges_to (arg_ends ss) L.succs OfSuccs
   pub most_succs : s.blocks.limit ≡ L.succs
   pub most_args : s.args.limit ≡ L.args
 
@@ -70,7 +70,7 @@ module _ {I : Type 0} (meaning : I → Meaning) where
     pub params : map word_of c.params.entries ≡ reverse (all_params k)
     pub succs : SuccsHeld c.succs L (all_succs k)
     pub ranges : RangesHeld c.ranges L k.closed
-    pub operand_ranges : c.operand_ranges ≡ no_spans Insts L.insts
+    pub operand_ranges : c.operand_ranges.spans ≡ no_spans Insts L.insts
     pub most_insts : c.insts.limit ≡ L.insts
     pub most_params : c.params.limit ≡ L.params
 

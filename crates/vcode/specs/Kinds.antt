@@ -10,4 +10,4 @@ IsTable t id = t.id ≡ id
 
 -- the ranges go by this name, and there is room for so many
 abbrev pub AreRanges : Ranges → TableId → ℕ → Type 0
-AreRanges r id most = (r.id ≡ id) × (r.most ≡ most)
+AreRanges r id most = (r.spans.id ≡ id) × (r.spans.most ≡ most)

@@ -28,7 +28,7 @@ module _ {I : Type 0} where
   -- the tables of the code have these capacities
   pub record CodeLimits (c : Code I) (L : Limits) : Type 0 where
     pub insts : L.insts ≡ c.insts.limit
-    pub blocks : L.blocks ≡ c.ranges.insts.most
+    pub blocks : L.blocks ≡ c.ranges.insts.spans.most
     pub succs : L.succs ≡ c.succs.blocks.limit
     pub args : L.args ≡ c.succs.args.limit
     pub params : L.params ≡ c.params.limit
@@ -38,7 +38,7 @@ module _ {I : Type 0} where
   limits_of t = record {
     regs = limit_of t.vregs;
     insts = t.code.insts.limit;
-    blocks = t.code.ranges.insts.most;
+    blocks = t.code.ranges.insts.spans.most;
     succs = t.code.succs.blocks.limit;
     args = t.code.succs.args.limit;
     params = t.code.params.limit;

@@ -14,10 +14,10 @@ pub struct BlockRanges {
     succs: Ranges,
     params: Ranges,
     preds: Ranges,
-    ghost of_insts: { AreRanges insts Blocks insts.most },
-    ghost of_succs: { AreRanges succs Blocks insts.most },
-    ghost of_params: { AreRanges params Blocks insts.most },
-    ghost of_preds: { AreRanges preds Blocks insts.most },
+    ghost of_insts: { AreRanges insts Blocks insts.spans.most },
+    ghost of_succs: { AreRanges succs Blocks insts.spans.most },
+    ghost of_params: { AreRanges params Blocks insts.spans.most },
+    ghost of_preds: { AreRanges preds Blocks insts.spans.most },
 }
 
 impl BlockRanges {
@@ -41,7 +41,7 @@ impl BlockRanges {
     }
 
     pub(crate) fn clear(&mut self)
-        ensures { (L : Limits) → L.blocks ≡ self.old.insts.most → RangesHeld self.new L [] }
+        ensures { (L : Limits) → L.blocks ≡ self.old.insts.spans.most → RangesHeld self.new L [] }
     {
         self.insts.clear();
         self.succs.clear();

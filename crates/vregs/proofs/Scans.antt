@@ -52,8 +52,5 @@ module _ (n : ℕ) (ws : List ℕ) (k : ℕ) (h : Scan n ws k) where
   pub scan_all : length ws ≤ k → first_unknown n 0 ws ≡ None
   scan_all l = h ∙ ap (first_unknown n k) (drop_all k ws l)
 
-  pub scan_past : slice_get ws k ≡ None → Scan n ws (k + 1)
-  scan_past e = ⊎_elim
-      (λ l. let some = slice_get-get_or ws k 0 l in cc)
-      (λ l. scan_all l ∙ sym (ap (first_unknown n (k + 1)) (drop_all (k + 1) ws (omega arith))))
-      (cases_lt k (length ws))
+  pub scan_none : slice_get ws k ≡ None → first_unknown n 0 ws ≡ None
+  scan_none e = ⊎_elim (λ l. let some = slice_get-get_or ws k 0 l in cc) scan_all (cases_lt k (length ws))

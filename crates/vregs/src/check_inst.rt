@@ -34,9 +34,10 @@ impl VRegAllocator {
     {
         // By number, as the interface lends slots: an iterator over them does not prove.
         for k in 0..MAX_SLOTS {
-            if let Some(slot) = inst.slot(k) {
-                self.check_known(slot.reg, k)?;
-            }
+            let Some(slot) = inst.slot(k) else {
+                return Ok(());
+            };
+            self.check_known(slot.reg, k)?;
         }
         Ok(())
     }

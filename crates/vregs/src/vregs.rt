@@ -56,7 +56,7 @@ impl VRegAllocator {
 
     /// Lets all virtual registers go.
     pub fn clear(&mut self)
-        ensures { self.new ≡ with_vregs self.old [] }
+        ensures { self.new ≡ record { vregs = record self.old.vregs { entries = []; block = self.new.vregs.block } } }
     {
         self.vregs.clear();
     }
@@ -108,7 +108,7 @@ impl VRegAllocator {
         let class = reg.class()?;
         let i = index.checked_sub(PINNED_VREGS)?;
         let vreg = self.vregs.as_slice().get(i)?;
-        (vreg.class == class).then_some(i)
+        (vreg.class.number() == class.number()).then_some(i)
     }
 
     // The position of a register that has to be allocated; it is the one at `place` among those that were passed.

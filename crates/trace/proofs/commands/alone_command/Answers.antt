@@ -7,7 +7,7 @@ use Rattle.trace.specs.Steps.{Step, alone, text}
 
 pub returns : goal.returns
 returns c =
-    let said = text (call_text c.args.ranges.now c.in_ok-call.call) in (
+    let said = text (call_text c.args.ranges.now.spans c.in_ok-call.call) in (
       refl,
       (
         said,

@@ -7,4 +7,4 @@ pub invariant_of-self : goal.invariant_of-self
 invariant_of-self c = λ i j le lt. grind (arith, common_steps, reversed_rises c.args.target_len c.self.inside.ends.entries c.self.invariant i j)
 
 pub returns-clause-ranges : goal.returns-clause-ranges
-returns-clause-ranges c = λ k h. grind (arith, common_steps, target_range c.args.self.now c.args.target_len k)
+returns-clause-ranges c = λ k h. grind (arith, common_steps, target_range c.args.self.now.spans c.args.target_len k)

@@ -10,7 +10,7 @@ returns g c =
     let s = c.args.self.now in
     let id = s.of_operands.0 in
     let most = s.of_operands.1 ∙ sym h.insts in
-    let same : no_spans s.operand_ranges.id s.operand_ranges.most ≡ no_spans Insts L.insts = λ i. no_spans (id i) (most i) in
+    let same : no_spans s.operand_ranges.spans.id s.operand_ranges.spans.most ≡ no_spans Insts L.insts = λ i. no_spans (id i) (most i) in
     record {
       insts = ap (map g.I.MachInst.meaning) (ap (λ t. t.entries) c.clear.ensures);
       params = ap (map word_of) (ap (λ t. t.entries) c.clear-2.ensures);

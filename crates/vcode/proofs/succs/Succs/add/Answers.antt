@@ -52,7 +52,7 @@ returns-clause-answer c =
     let more : length (flat_args (next ∷ ss)) ≡ length (flat_args ss) + length (map word_of args) = length-append (flat_args ss) (map word_of args) in
     let last = totals_last (λ (xs : List Succ). length (flat_args xs)) refl ss in
     let blocks = many_blocks s L ss h args in
-    let accepted : end_fault s.arg_ranges c.len.result ≡ None =
+    let accepted : end_fault s.arg_ranges.spans c.len.result ≡ None =
     ap (λ (t : Spans). end_fault t c.len.result) h.arg_ranges
     ∙ end_fault_is (arg_ends ss) L.succs OfSuccs c.len.result (omega arith)
     ∙ has_room (length (arg_ends ss)) L.succs OfSuccs (omega (arith, totals_length (λ (xs : List Succ). length (flat_args xs)) ss, h.most_succs, fits.0))
@@ -62,7 +62,7 @@ returns-clause-answer c =
         blocks = held_push block_of s.blocks.entries _ (map (λ x. x.block) ss) c.args.block h.blocks (ap (λ t. t.entries) (c.append.ensures.added fits.0));
         args = now;
         arg_ranges =
-            end_pushed s.arg_ranges c.len.result c.push_end.result _ c.push_end.ensures.cases accepted
+            end_pushed s.arg_ranges.spans c.len.result c.push_end.result _ c.push_end.ensures.cases accepted
             ∙ ap (λ (t : Spans). with_end t c.len.result) h.arg_ranges
             ∙ ap (λ (k : ℕ). ranges_to (arg_ends ss ++ k ∷ []) L.succs OfSuccs) end;
         most_succs = ap (λ t. t.limit) (c.append.ensures.added fits.0) ∙ h.most_succs;

@@ -3,9 +3,8 @@ use Rattle.machinst.specs.Meaning.{slot_of, slots_of}
 use Rattle.std.proofs.lemmas.Option.{slice_get-map}
 use Rattle.std.specs.Option.{option_map}
 use Rattle.vregs.proofs.Outcomes.{outcome_err}
-use Rattle.vregs.proofs.Scans.{scan_found, scan_more, scan_past}
+use Rattle.vregs.proofs.Scans.{scan_found, scan_more, scan_none}
 use Rattle.vregs.proofs.vregs.VRegAllocator.check_slots.Goals as goal
-use Rattle.vregs.proofs.vregs.VRegAllocator.check_slots.Goals.{in-Some+in_ok-check_known, in_default}
 use Rattle.vregs.specs.Entries.{parts_in}
 use Rattle.vregs.specs.Files.{count}
 use Rattle.vregs.specs.Insts.{slot_words}
@@ -17,12 +16,14 @@ returns-in_err-check_known g c short =
     outcome_err _ c.from_residual.result (λ _. Unit {0}) _ c.from_residual.ensures.1
     (scan_found (count (parts_in c.args.self.now)) (slot_words m) c.loop-k.k c.loop-k.invariant _ at _ c.in_err-check_known.ensures)
 
+pub returns-in_default : goal.returns-in_default
+returns-in_default g c short =
+    let m = g.I.MachInst.meaning c.args.inst.now in
+    let at = slice_get-map (λ s. s.word) (slots_of m) c.loop-k.k ∙ ap (option_map (λ s. s.word)) (sym c.slot.ensures ∙ ap (option_map slot_of) c.in_default.is) in
+    (scan_none (count (parts_in c.args.self.now)) (slot_words m) c.loop-k.k c.loop-k.invariant at, tt)
+
 pub loop-k-preserved : goal.loop-k-preserved
 loop-k-preserved g c =
-    let n = count (parts_in c.args.self.now) in
     let m = g.I.MachInst.meaning c.args.inst.now in
-    let at = slice_get-map (λ s. s.word) (slots_of m) c.loop-k.k ∙ ap (option_map (λ s. s.word)) (sym c.slot.ensures) in
-    elim c.match-slot.branch [
-      | in-Some+in_ok-check_known w ↦ scan_more n (slot_words m) c.loop-k.k c.loop-k.invariant _ (at ∙ ap (λ o. option_map (λ s. s.word) (option_map slot_of o)) w.in-Some.is) w.in_ok-check_known.ensures.0
-      | in_default w ↦ scan_past n (slot_words m) c.loop-k.k c.loop-k.invariant (at ∙ ap (λ o. option_map (λ s. s.word) (option_map slot_of o)) w.in_default.is)
-    ]
+    let at = slice_get-map (λ s. s.word) (slots_of m) c.loop-k.k ∙ ap (option_map (λ s. s.word)) (sym c.slot.ensures ∙ ap (option_map slot_of) c.in-Some.is) in
+    scan_more (count (parts_in c.args.self.now)) (slot_words m) c.loop-k.k c.loop-k.invariant _ at c.in_ok-check_known.ensures.0

@@ -1,6 +1,6 @@
-use Rattle.std.proofs.Common.{length, get_or, ap, ◌∙◌, arith}
+use Rattle.std.proofs.Common.{eqb, length, get_or, ap, ◌∙◌, arith}
 use Rattle.regs.specs.Classes.{class_number}
-use Rattle.vregs.proofs.Places.{position_within, same_class}
+use Rattle.vregs.proofs.Places.{position_within}
 use Rattle.vregs.proofs.vregs.VRegAllocator.position.Goals as goal
 use Rattle.vregs.specs.Entries.{vregs_of}
 
@@ -12,4 +12,4 @@ returns c =
     c.in_ok-index.ensures c.in_ok-class.ensures c.in_ok-i.ensures
     v (c.in_ok-vreg.ensures.lookup.1 ∙ ap (λ vs. get_or vs c.in_ok-i.i v) c.as_slice.ensures)
     (omega (arith, c.in_ok-vreg.ensures.lookup.3.0, ap length c.as_slice.ensures))
-    c.eq.result (c.eq.ensures ∙ same_class v.class c.in_ok-class.class)
+    (eqb c.number.result c.number-2.result) (λ i. eqb (c.number.ensures i) (c.number-2.ensures i))
