@@ -52,20 +52,39 @@ impl MachInst for P {
         }
     }
 
+    #[inline]
     fn slot(&self, k: usize) -> Option<Operand> {
-        match (*self, k) {
-            (P::Imm { d, .. }, 0) | (P::Move { d, .. }, 1) | (P::Add { d, .. }, 2) => Some(
-                Operand::late_def(d, OperandConstraint::Reg),
-            ),
-            (P::Add { a, .. } | P::Move { s: a, .. } | P::Branch { a }, 0) => Some(
-                Operand::early_use(a, OperandConstraint::Reg),
-            ),
-            (P::Add { b, .. }, 1) => Some(Operand::early_use(b, OperandConstraint::Reg)),
-            (P::Call { a, .. } | P::TailCall { a } | P::Ret { a }, 0) => Some(Operand::early_use(
-                a, CALL_REG,
-            )),
-            (P::Call { d, .. }, 1) => Some(Operand::late_def(d, CALL_REG)),
-            _ => None,
+        // By the case first: one match on the case and the number takes twice as long.
+        match *self {
+            P::Imm { d, .. } => match k {
+                0 => Some(Operand::late_def(d, OperandConstraint::Reg)),
+                _ => None,
+            },
+            P::Add { a, b, d } => match k {
+                0 => Some(Operand::early_use(a, OperandConstraint::Reg)),
+                1 => Some(Operand::early_use(b, OperandConstraint::Reg)),
+                2 => Some(Operand::late_def(d, OperandConstraint::Reg)),
+                _ => None,
+            },
+            P::Move { s, d } => match k {
+                0 => Some(Operand::early_use(s, OperandConstraint::Reg)),
+                1 => Some(Operand::late_def(d, OperandConstraint::Reg)),
+                _ => None,
+            },
+            P::Call { a, d } => match k {
+                0 => Some(Operand::early_use(a, CALL_REG)),
+                1 => Some(Operand::late_def(d, CALL_REG)),
+                _ => None,
+            },
+            P::TailCall { a } | P::Ret { a } => match k {
+                0 => Some(Operand::early_use(a, CALL_REG)),
+                _ => None,
+            },
+            P::Branch { a } => match k {
+                0 => Some(Operand::early_use(a, OperandConstraint::Reg)),
+                _ => None,
+            },
+            P::Jump | P::Trap | P::Skip => None,
         }
     }
 

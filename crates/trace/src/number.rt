@@ -56,7 +56,9 @@ impl Unsigned for usize {
 fn with_digit(n: u64, digit: u8) -> Option<u64>
     ensures { SomeIff result (n * 10 + digit < 2 ^ 64) (n * 10 + digit) }
 {
-    n.checked_mul(10)?.checked_add(u64::from(digit))
+    let digit = u64::from(digit);
+    let most = (u64::MAX - digit) / 10;
+    (n <= most).then(|| n * 10 + digit)
 }
 
 /// The number that the digits of `word` write, which has to have at most 64 bits.

@@ -63,6 +63,8 @@ impl ValueLabels {
         if end == 0 {
             return Ok(());
         }
+        // Before the search, which takes as long as the table.
+        self.records.check_room()?;
         let start = self.last_end(label);
         self.records.try_push(LabelRecord {
             reg,

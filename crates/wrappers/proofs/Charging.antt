@@ -1,5 +1,5 @@
 -- The slots of a charged instruction, and a word replaced in it.
-use Rattle.std.proofs.Common.{◌≡◌, ℕ, zero, suc, ◌-◌, true, false, ◌||◌, eqb, List, [], ◌∷◌, ◌++◌, is_some, Some, None, refl, ap, arith}
+use Rattle.std.proofs.Common.{◌≡◌, ℕ, zero, suc, ◌-◌, true, false, ◌||◌, eqb, List, [], ◌∷◌, ◌++◌, length, is_some, Some, None, refl, ap, arith}
 use Rattle.std.specs.List.{slice_get}
 use Rattle.machinst.specs.Meaning.{Slot, reworded, reworded_at}
 
@@ -23,6 +23,14 @@ module _ {X : Type 0} where
   has_push (x ∷ xs) y (suc zero) = let r = has_push xs y zero in grind arith
   has_push (x ∷ xs) y (suc (suc k)) = let r = has_push xs y (suc k) in grind arith
 
+module _ {X : Type 0} where
+  -- what is not in the longer list is not in the shorter one
+  pub get_push_past : (xs : List X) (y : X) (k : ℕ) → is_some (slice_get (xs ++ y ∷ []) k) ≡ false → slice_get xs k ≡ slice_get (xs ++ y ∷ []) k
+  get_push_past [] y zero h = grind arith
+  get_push_past [] y (suc k) h = refl
+  get_push_past (z ∷ xs) y zero h = refl
+  get_push_past (z ∷ xs) y (suc k) h = get_push_past xs y k h
+
 -- another word in the slot of that place
 pub reworded_push_below : (xs : List Slot) (y : Slot) (k w : ℕ) → is_some (slice_get xs k) ≡ true → reworded_at (xs ++ y ∷ []) k w ≡ reworded_at xs k w ++ y ∷ []
 reworded_push_below [] y k w h = grind arith
@@ -39,3 +47,9 @@ pub reworded_past : (xs : List Slot) (k w : ℕ) → is_some (slice_get xs k) �
 reworded_past [] k w h = refl
 reworded_past (x ∷ xs) zero w h = grind arith
 reworded_past (x ∷ xs) (suc k) w h = ap {B = List Slot} (λ r. x ∷ r) (reworded_past xs k w h)
+
+-- it is one slot in the place of another
+pub reworded_length : (xs : List Slot) (k w : ℕ) → length (reworded_at xs k w) ≡ length xs
+reworded_length [] k w = refl
+reworded_length (x ∷ xs) zero w = refl
+reworded_length (x ∷ xs) (suc k) w = ap suc (reworded_length xs k w)

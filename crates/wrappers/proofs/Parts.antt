@@ -5,7 +5,7 @@ use Rattle.std.proofs.lemmas.List.{append-nil}
 use Rattle.machinst.specs.Layers.{Layer, charge, counters, fence, fenced_off}
 use Rattle.machinst.specs.Meaning.{Meaning, Slot, slot_at, slots_of, with_slots, with_word}
 use Rattle.machinst.specs.Usual.{early_use, in_reg}
-use Rattle.wrappers.proofs.Charging.{get_push_some, get_push_none, has_push, reworded_push_below, reworded_push_last, reworded_past}
+use Rattle.wrappers.proofs.Charging.{get_push_some, get_push_none, get_push_past, has_push, reworded_push_below, reworded_push_last, reworded_past}
 use Rattle.wrappers.specs.Wrapped.{counter_of, recounted, wrapped}
 
 pub slots_wrapped : (l : Layer) (m : Meaning) → slots_of (wrapped (l ∷ []) m) ≡ slots_of m ++ counters (l ∷ [])
@@ -38,6 +38,11 @@ pub slot_added : (l : Layer) (m : Meaning) (k w : ℕ) → counter_of l ≡ Some
 slot_added (charge v) m k w c h here = let r = get_push_none (slots_of m) (early_use in_reg v) k h here in grind arith
 slot_added (fence f) m k w c h here = grind arith
 
+-- past the counter's slot there is none of the inner instruction either
+pub slot_past : (l : Layer) (m : Meaning) (k : ℕ) → is_some (slot_at (wrapped (l ∷ []) m) k) ≡ false → slot_at m k ≡ slot_at (wrapped (l ∷ []) m) k
+slot_past (charge w) m k h = get_push_past (slots_of m) (early_use in_reg w) k h
+slot_past (fence f) m k h = refl
+
 pub slot_not_added : (l : Layer) (m : Meaning) (k : ℕ) → counter_of l ≡ None → slot_at (wrapped (l ∷ []) m) k ≡ slot_at m k
 slot_not_added (charge w) m k c = grind arith
 slot_not_added (fence f) m k c = refl
@@ -51,6 +56,11 @@ pub word_inner : (l : Layer) (m : Meaning) (k w : ℕ) → is_some (slot_at m k)
 word_inner (charge v) m k w h = ap (with_slots m) (reworded_push_below (slots_of m) (early_use in_reg v) k w h)
 word_inner (fence f) m k w h = refl
 
+-- without a counter each place is that of the inner instruction
+pub word_not_added : (l : Layer) (m : Meaning) (k w : ℕ) → counter_of l ≡ None → with_word (wrapped (l ∷ []) m) k w ≡ wrapped (l ∷ []) (with_word m k w)
+word_not_added (charge v) m k w c = grind arith
+word_not_added (fence f) m k w c = refl
+
 pub word_added : (l : Layer) (m : Meaning) (k w : ℕ) → is_some (slot_at m k) ≡ false → is_some (slot_at (wrapped (l ∷ []) m) k) ≡ true → with_word (wrapped (l ∷ []) m) k w ≡ wrapped (recounted l w ∷ []) m
 word_added (charge v) m k w h here = ap (with_slots m) (reworded_push_last (slots_of m) (early_use in_reg v) k w h here)
 word_added (fence f) m k w h here = grind arith
@@ -58,4 +68,4 @@ word_added (fence f) m k w h here = grind arith
 pub word_past : (l : Layer) (m : Meaning) (k w : ℕ) → is_some (slot_at (wrapped (l ∷ []) m) k) ≡ false → with_word (wrapped (l ∷ []) m) k w ≡ wrapped (l ∷ []) m
 word_past l m k w h = ap (with_slots (wrapped (l ∷ []) m)) (reworded_past (slots_of (wrapped (l ∷ []) m)) k w h)
 
-pub ruleset wrapped_parts = (clobbers_wrapped, control_wrapped, move_wrapped, payload_wrapped, slot_inner, slot_added, slot_not_added, has_added, word_inner, word_added, word_past)
+pub ruleset wrapped_parts = (clobbers_wrapped, control_wrapped, move_wrapped, payload_wrapped, slot_inner, slot_added, slot_not_added, has_added, word_inner, word_not_added, word_added, word_past)

