@@ -7,8 +7,11 @@ use wrappers::fenced::Fenced;
 
 // The number of parts of a type, and the class and the type of the last.
 fn parts<I: MachInst>(ty: u16) -> Option<(usize, RegClass, Type)> {
-    let (classes, types) = I::rc_for_type(Type(ty))?;
-    Some((classes.len(), *classes.last()?, *types.last()?))
+    match I::rc_for_type(Type(ty))? {
+        ([rc], [t]) => Some((1, *rc, *t)),
+        ([_, rc], [_, t]) => Some((2, *rc, *t)),
+        _ => None,
+    }
 }
 
 fn word<I: MachInst>(inst: &I, k: usize) -> Option<u32> {
