@@ -1,4 +1,4 @@
-ghost use Rattle.std.specs.Prelude.{◌≡◌, ℕ, ◌-◌, ◌^◌, min, false, ◌&&◌, ◌||◌, ◌==◌, nat_lt, slice_index};
+ghost use Rattle.std.specs.Prelude.{◌≡◌, ℕ, ◌-◌, ◌/◌, ◌^◌, min, false, ◌&&◌, ◌||◌, ◌==◌, nat_lt, slice_index};
 ghost use Rattle.regs.specs.Sets.{first_regs, member};
 
 use crate::reg::PReg;
@@ -51,17 +51,19 @@ impl PRegSet {
     pub fn contains(self, reg: PReg) -> bool
         ensures { result ≡ member self reg.0 }
     {
-        (self.word(reg.0 / 64) >> (reg.0 % 64)) & 1 == 1
+        (self.word_of(reg) >> (reg.0 % 64)) & 1 == 1
     }
 
-    // Word w; 0 where there is none. An Option, or an index into the words, makes `contains` take two to four times as long.
-    fn word(self, w: u8) -> u64
-        ensures { result ≡ slice_index self.bits w }
+    // The word that has the register's bit; 0 where there is none. By ranges, since an index takes a set that
+    // the compiler knows through memory, and a match on the word's number jumps by a table.
+    fn word_of(self, reg: PReg) -> u64
+        ensures { result ≡ slice_index self.bits (reg.0 / 64) }
     {
-        match w {
-            0 => self.bits[0],
-            1 => self.bits[1],
-            2 => self.bits[2],
+        let [low, middle, high] = self.bits;
+        match reg.0 {
+            0..64 => low,
+            64..128 => middle,
+            128..192 => high,
             _ => 0,
         }
     }
