@@ -54,8 +54,8 @@ impl PRegSet {
         (self.word_of(reg) >> (reg.0 % 64)) & 1 == 1
     }
 
-    // The word that has the register's bit; 0 where there is none. By ranges, since an index takes a set that
-    // the compiler knows through memory, and a match on the word's number jumps by a table.
+    // The word that has the register's bit; 0 where there is none. By ranges: an index takes the set through memory,
+    // and a match on the number of the word can become a jump by a table.
     fn word_of(self, reg: PReg) -> u64
         ensures { result ≡ slice_index self.bits (reg.0 / 64) }
     {
